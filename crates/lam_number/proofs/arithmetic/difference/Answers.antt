@@ -1,0 +1,16 @@
+use Rattle.std.proofs.Common.{arith}
+use Rattle.std.proofs.lemmas.Int.{ints}
+use Rattle.lam_number.proofs.Sizes.{unit_bound, low-reach, high-reach}
+use Rattle.lam_number.proofs.arithmetic.difference.Goals as goal
+
+pub narrow-requires : goal.narrow-requires
+narrow-requires g c =
+    let x = c.args.x in
+    let y = c.args.y in
+    omega (arith, ints, low-reach x.low x.high, high-reach y.low y.high, unit_bound g.row.S c.requires.scale.1)
+
+pub narrow-requires-2 : goal.narrow-requires-2
+narrow-requires-2 g c =
+    let x = c.args.x in
+    let y = c.args.y in
+    omega (arith, ints, high-reach x.low x.high, low-reach y.low y.high, unit_bound g.row.S c.requires.scale.1)

@@ -1,0 +1,4 @@
+pub mod Digits
+pub mod Blanks
+pub mod Quotients
+pub mod PlyLawTrials

@@ -1,0 +1,5 @@
+pub mod Reading
+pub mod Job
+pub mod Analysis
+pub mod Spelled
+pub mod Read

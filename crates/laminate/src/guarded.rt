@@ -1,0 +1,93 @@
+//! Calls that test their condition first, and answer None where it isn't met.
+
+ghost use Rattle.std.specs.Prelude.{◌≡◌, ◌^◌, ◌≤◌, ◌*ℤ◌, IfSome};
+ghost use Rattle.lam_number.specs.Ends.{reach};
+
+use lam_number::Enclosure;
+
+/// The greatest size of the numerator and the denominator of a ratio.
+const WIDEST: u128 = 1 << 66;
+
+/// The greater size of the ends, over U.
+fn reach_of<N: Enclosure>(x: N) -> u128
+    ensures value { result ≡ reach (N.low_end x) (N.high_end x) }
+    ensures bound { result ≤ 2 ^ 63 }
+{
+    greater_size(x.low(), x.high())
+}
+
+#[tactic(auto, unfolding(lam_number::specs::Ends::reach))]
+fn greater_size(low: i64, high: i64) -> u128
+    ensures value { result ≡ reach low high }
+    ensures bound { result ≤ 2 ^ 63 }
+{
+    let (low, high) = (low.unsigned_abs(), high.unsigned_abs());
+    if low < high {
+        high as u128
+    } else {
+        low as u128
+    }
+}
+
+/// U, two to the power of the scale.
+pub fn unit(scale: u32) -> u128
+    requires { scale ≤ 60 }
+    ensures value { result ≡ 2 ^ scale }
+    ensures bound { result ≤ 2 ^ 60 }
+{
+    1u128 << scale
+}
+
+/// The product of two whole numbers, where 128 bits hold it.
+pub fn times(a: i128, b: i128) -> Option<i128>
+    ensures { IfSome result (λ product. product ≡ a *ℤ b) }
+{
+    a.checked_mul(b)
+}
+
+/// The enclosure of a ratio.
+pub fn ratio<N: Enclosure>(num: i128, den: i128) -> Option<N> {
+    let size = num.unsigned_abs();
+    let over = den.unsigned_abs();
+    if den > 0 && over <= WIDEST && size <= WIDEST && size <= 6 * over {
+        Some(N::of_ratio(num, den))
+    } else {
+        None
+    }
+}
+
+/// The enclosure of a sum.
+pub fn sum<N: Enclosure>(x: N, y: N) -> Option<N> {
+    if reach_of(x) + reach_of(y) <= 6 * unit(N::SCALE) {
+        Some(x.add(y))
+    } else {
+        None
+    }
+}
+
+/// The enclosure of a difference.
+pub fn difference<N: Enclosure>(x: N, y: N) -> Option<N> {
+    if reach_of(x) + reach_of(y) <= 6 * unit(N::SCALE) {
+        Some(x.sub(y))
+    } else {
+        None
+    }
+}
+
+/// The enclosure of a product.
+pub fn product<N: Enclosure>(x: N, y: N) -> Option<N> {
+    if reach_of(x) * reach_of(y) <= 6 * (unit(N::SCALE) * unit(N::SCALE)) {
+        Some(x.mul(y))
+    } else {
+        None
+    }
+}
+
+/// The enclosure of a square.
+pub fn square<N: Enclosure>(x: N) -> Option<N> {
+    if reach_of(x) <= 2 * unit(N::SCALE) {
+        Some(x.square())
+    } else {
+        None
+    }
+}

@@ -1,0 +1,131 @@
+use super::*;
+use lam_outside::{MemoryFiles, MemorySink};
+use std::test::Fail;
+
+const HEADER: &str = "name,kind,e1,e2,n12,g12,xt,xc,yt,yc,s,f12,t,p,q,h,cost\n";
+
+const MAT: &str = "mat,ply,10000,10000,0,5000,100000,100000,100000,100000,50000,0,5000,1,0,1,10\n";
+
+const WEAK_IN_TENSION: &str =
+    "mat,ply,10000,10000,0,5000,100000,100000,100000,200000,50000,0,5000,1,0,1,10\n";
+
+fn words(alloc: Global, texts: &[&str]) -> Result<Vec<String>, AllocError> {
+    let mut words = Vec::new(alloc);
+    for text in texts {
+        words.push(String::from_str(alloc, text)?)?;
+    }
+    Ok(words)
+}
+
+fn job_with(alloc: Global, forces: &str) -> Result<String, AllocError> {
+    format!(in alloc;
+        "version = 1\nlimit = 4\n[[case]]\nkind = \"resultants\"\nfactor = 5000\n{forces}\n"
+    )
+}
+
+/// The status, and what is written into an ample sink, of the words over a job and a catalogue in memory.
+fn answer_to(
+    alloc: Global,
+    texts: &[&str],
+    job: &str,
+    catalogue: &str,
+) -> Result<(Status, Vec<u8>), AllocError> {
+    let mut files = MemoryFiles::new(alloc);
+    files.add("job", job.as_bytes())?;
+    files.add("catalogue", catalogue.as_bytes())?;
+    let mut sink = MemorySink::new(alloc, 1000, 1000)?;
+    let words = words(alloc, texts)?;
+    let status = run(alloc, words.as_slice(), &mut files, &mut sink);
+    Ok((status, sink.written().to_vec(alloc)?))
+}
+
+fn analysis(alloc: Global, forces: &str, item: &str) -> Result<(Status, Vec<u8>), AllocError> {
+    let job = job_with(alloc, forces)?;
+    let catalogue = format!(in alloc; "{HEADER}{item}")?;
+    answer_to(
+        alloc,
+        &["analyse", "job", "catalogue", "mat"],
+        job.as_str(),
+        catalogue.as_str(),
+    )
+}
+
+#[test]
+fn a_ratio_is_printed_rounded_down_and_a_tie_one_below(rt: HostRuntime) -> Result<(), Fail> {
+    let rows = [
+        ("ny = 90000", MAT, "5.555"),
+        ("ny = 100000", MAT, "4.999"),
+        ("ny = -100000", WEAK_IN_TENSION, "9.999"),
+        ("ny = 100000", WEAK_IN_TENSION, "4.999"),
+        ("ny = 0", MAT, "20.000"),
+        ("ny = 6250000", MAT, "0.079"),
+    ];
+    for (forces, item, ratio) in rows {
+        let (status, text) = analysis(rt.alloc(), forces, item)?;
+        let expected = format!(in rt.alloc();
+            "laminate analysis 1\ncost 10\nrules kept\nratio 1 1 {ratio}\nend\n"
+        )?;
+        assert_eq!(rt; status, Status::Done);
+        assert_eq!(rt; text.as_slice(), expected.as_bytes());
+    }
+    Ok(())
+}
+
+#[test]
+fn each_fault_has_its_line_and_its_status(rt: HostRuntime) -> Result<(), Fail> {
+    let alloc = rt.alloc();
+    let usage: &[&str] = &[];
+    let job = job_with(alloc, "ny = 90000")?;
+    let catalogue = format!(in alloc; "{HEADER}{MAT}")?;
+    let rows: [(&[&str], Status, &str); 5] = [
+        (usage, Status::Usage, USAGE),
+        (&["analyse", "job", "catalogue", "-x"], Status::Usage, USAGE),
+        (
+            &["analyse", "none", "catalogue", "mat"],
+            Status::ReadFault,
+            "cannot read job\n",
+        ),
+        (
+            &["analyse", "job", "none", "mat"],
+            Status::ReadFault,
+            "cannot read catalogue\n",
+        ),
+        (
+            &["analyse", "job", "catalogue", "mut"],
+            Status::Refused,
+            "refused unbuilt\n",
+        ),
+    ];
+    for (texts, status, line) in rows {
+        let (ended, text) = answer_to(alloc, texts, job.as_str(), catalogue.as_str())?;
+        assert_eq!(rt; ended, status);
+        assert_eq!(rt; text.as_slice(), line.as_bytes());
+    }
+    Ok(())
+}
+
+const USAGE: &str =
+    "usage: laminate design JOB CATALOGUE | analyse JOB CATALOGUE SCHEDULE | check JOB CATALOGUE REPORT | sample N; options of design and sample: --guide cheapest|thickest|learner, --nodes N\n";
+
+#[test]
+fn a_write_fault_leaves_a_prefix(rt: HostRuntime) -> Result<(), Fail> {
+    let alloc = rt.alloc();
+    let job = job_with(alloc, "ny = 90000")?;
+    let catalogue = format!(in alloc; "{HEADER}{MAT}")?;
+    let mut files = MemoryFiles::new(alloc);
+    files.add("job", job.as_bytes())?;
+    files.add("catalogue", catalogue.as_bytes())?;
+    let words = words(alloc, &["analyse", "job", "catalogue", "mat"])?;
+
+    let mut failing = MemorySink::new(alloc, 1000, 3)?;
+    failing.fail(2)?;
+    let status = run(alloc, words.as_slice(), &mut files, &mut failing);
+    assert_eq!(rt; status, Status::WriteFault);
+    assert_eq!(rt; failing.written(), b"lam".as_slice());
+
+    let mut full = MemorySink::new(alloc, 10, 1000)?;
+    let status = run(alloc, words.as_slice(), &mut files, &mut full);
+    assert_eq!(rt; status, Status::WriteFault);
+    assert_eq!(rt; full.written(), b"laminate a".as_slice());
+    Ok(())
+}
