@@ -73,6 +73,10 @@ pub quotient-times : (x y : ℚ) → y ≢ whole (pos 0) → x /ℚ y *ℚ y ≡
 unfolding ◌-ℚ◌ ◌/ℚ◌
 quotient-times x y h = from₁ x (product_inverse y h) (solve 3 (λ x y i. x ⊗ i ⊗ y ≐ x ⊕ x ⊗ (y ⊗ i ⊖ int (pos 1))) refl x y (inverse y))
 
+-- a fraction times its denominator is its numerator
+pub fraction-times : (n d : ℤ) → pos 0 <ℤ d → fraction n d *ℚ whole d ≡ whole n
+fraction-times n d h = product_comm (fraction n d) (whole d) ∙ fraction_times n d h
+
 -- a quotient is the one number that gives the dividend back
 pub quotient_only : (x y z : ℚ) → y ≢ whole (pos 0) → z *ℚ y ≡ x → z ≡ x /ℚ y
 unfolding ◌-ℚ◌ ◌/ℚ◌

@@ -1,5 +1,5 @@
 -- A value of fixed point is known by its ends.
-use Rattle.std.proofs.Common.{◌≡◌, sym, ap, ◌∙◌, subst, ℕ, arith, ℤ, ◌≤ℤ◌}
+use Rattle.std.proofs.Common.{◌≡◌, sym, ap, ◌∙◌, subst, ℕ, arith, ℤ, ◌≤ℤ◌, ◌*◌}
 use Rattle.std.proofs.lemmas.Int.{ints, clamps}
 use Rattle.std.specs.Int.{int_max}
 use lib.Dec.{T_prop}
@@ -31,3 +31,6 @@ held_as s low high low' high' x e f h = subst (λ z. Encloses s z high x) (sym e
 
 pub width_as : (low high low' high' : ℤ) → low ≡ low' → high ≡ high' → width low high ≡ width low' high'
 width_as low high low' high' e f = ap (λ z. width z high) e ∙ ap (λ z. width low' z) f
+
+pub scaled_width_as : (u : ℕ) (low high low' high' : ℤ) → low ≡ low' → high ≡ high' → width low high * u ≡ width low' high' * u
+scaled_width_as u low high low' high' e f = ap (λ n. n * u) (width_as low high low' high' e f)

@@ -1,7 +1,9 @@
 pub mod Casts
 pub mod FixFacts
 pub mod Holding
+pub mod Laws
 pub mod Rationals
 pub mod Rounded
 pub mod Sizes
+pub mod SumOfProducts
 pub mod Widths

@@ -49,6 +49,10 @@ chain {x} {y} {z} h k = Fractions.transitive x y z h k
 pub reflexive : (x : ℚ) → x ≤ℚ x
 reflexive x = Order.reflexive ordered_rationals x
 
+-- equal numbers are at most each other
+pub at_most_same : {x y : ℚ} → x ≡ y → x ≤ℚ y
+at_most_same {x} e = subst (λ z. x ≤ℚ z) e (reflexive x)
+
 pub decide : {X : Type 0} (x y : ℚ) → (x ≤ℚ y → X) → (y <ℚ x → X) → X
 decide x y f g = Order.decide ordered_rationals x y f g
 

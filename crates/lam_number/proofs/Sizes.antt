@@ -1,5 +1,5 @@
 -- The sizes of ends, sums and products.
-use Rattle.std.proofs.Common.{◌≡◌, refl, ap, ◌∙◌, inl, inr, ℕ, ◌+◌, ◌*◌, ◌^◌, ◌<◌, ◌≤◌, arith, ℤ, pos, ◌+ℤ◌, ◌-ℤ◌, ◌*ℤ◌, ◌≤ℤ◌, FitsSigned, unsigned_abs}
+use Rattle.std.proofs.Common.{◌≡◌, refl, ap, ◌∙◌, inl, inr, ℕ, ◌+◌, ◌*◌, ◌^◌, ◌<◌, ◌≤◌, arith, ℤ, pos, ◌+ℤ◌, ◌*ℤ◌, ◌≤ℤ◌, FitsSigned, unsigned_abs}
 use Rattle.std.proofs.lemmas.Int.{ints, unsigned_abs-mul, fits_signed_from_abs}
 use Rattle.std.proofs.Math.Nat.{pow-le-pow_right, mul-le-mul_right}
 use Rattle.std.proofs.lemmas.Nat.{mul-le, pow-add}
@@ -52,13 +52,6 @@ root_bound r n u s k e h square =
 -- a bound of an end by units
 pub units_fit : (n s : ℕ) → s ≤ 60 → n ≤ 6 * 2 ^ s → n < 2 ^ 63
 units_fit n s h k = omega (arith, unit_bound s h, k)
-
--- sums and differences of ends
-pub sum_size : (x y : ℤ) → unsigned_abs (x +ℤ y) ≤ unsigned_abs x + unsigned_abs y
-sum_size x y = omega (arith, ints)
-
-pub difference_size : (x y : ℤ) → unsigned_abs (x -ℤ y) ≤ unsigned_abs x + unsigned_abs y
-difference_size x y = omega (arith, ints)
 
 pub unit_square : (s : ℕ) → s ≤ 60 → 2 ^ s * 2 ^ s ≤ 2 ^ 120
 unit_square s h = mul-le _ _ _ _ (unit_bound s h) (unit_bound s h)

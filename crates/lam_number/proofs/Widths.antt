@@ -43,10 +43,6 @@ pub width-pos : (low high : ℤ) → low ≤ℤ high → pos (width low high) �
 unfolding width
 width-pos low high h = omega (arith, ints)
 
-width-at_most : (low high : ℤ) (n : ℕ) → low ≤ℤ high → (high -ℤ low) ≤ℤ pos n → width low high ≤ n
-unfolding width
-width-at_most low high n h k = omega (arith, ints)
-
 scaled_gap : (f c n : ℤ) → c *ℤ n -ℤ f *ℤ n ≡ (c -ℤ f) *ℤ n
 scaled_gap = Solver.solve integers 3 (λ f c n. c ⊗ n ⊖ f ⊗ n ≐ (c ⊖ f) ⊗ n) refl
 

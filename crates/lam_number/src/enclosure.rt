@@ -63,63 +63,104 @@ pub trait Enclosure: Copy {
 
     /// An enclosure of the sums of what the two hold.
     fn add(self, other: Self) -> Self
-        requires { reach (low_end self) (high_end self) + reach (low_end other) (high_end other) ≤ 6 * 2 ^ SCALE }
+        requires { reach (low_end self) (high_end self) + reach (low_end other) (high_end other)
+            ≤ 6 * 2 ^ SCALE }
         ensures value { result ≡ values.sum self other }
-        ensures held { (x y : ℚ) → Encloses SCALE (low_end self) (high_end self) x → Encloses SCALE (low_end other) (high_end other) y → Encloses SCALE (low_end result) (high_end result) (x +ℚ y) }
-        ensures width { width (low_end result) (high_end result) ≤ width (low_end self) (high_end self) + width (low_end other) (high_end other) + unsigned_abs SLOP };
+        ensures held { (x y : ℚ)
+            → Encloses SCALE (low_end self) (high_end self) x
+            → Encloses SCALE (low_end other) (high_end other) y
+            → Encloses SCALE (low_end result) (high_end result) (x +ℚ y) }
+        ensures width { width (low_end result) (high_end result)
+            ≤ width (low_end self) (high_end self)
+            + width (low_end other) (high_end other)
+            + unsigned_abs SLOP };
 
     /// An enclosure of the differences of what the two hold.
     fn sub(self, other: Self) -> Self
-        requires { reach (low_end self) (high_end self) + reach (low_end other) (high_end other) ≤ 6 * 2 ^ SCALE }
+        requires { reach (low_end self) (high_end self) + reach (low_end other) (high_end other)
+            ≤ 6 * 2 ^ SCALE }
         ensures value { result ≡ values.difference self other }
-        ensures held { (x y : ℚ) → Encloses SCALE (low_end self) (high_end self) x → Encloses SCALE (low_end other) (high_end other) y → Encloses SCALE (low_end result) (high_end result) (x -ℚ y) }
-        ensures width { width (low_end result) (high_end result) ≤ width (low_end self) (high_end self) + width (low_end other) (high_end other) + unsigned_abs SLOP };
+        ensures held { (x y : ℚ)
+            → Encloses SCALE (low_end self) (high_end self) x
+            → Encloses SCALE (low_end other) (high_end other) y
+            → Encloses SCALE (low_end result) (high_end result) (x -ℚ y) }
+        ensures width { width (low_end result) (high_end result)
+            ≤ width (low_end self) (high_end self)
+            + width (low_end other) (high_end other)
+            + unsigned_abs SLOP };
 
     /// An enclosure of the products of what the two hold.
     fn mul(self, other: Self) -> Self
-        requires { reach (low_end self) (high_end self) * reach (low_end other) (high_end other) ≤ 6 * (2 ^ SCALE * 2 ^ SCALE) }
+        requires { reach (low_end self) (high_end self) * reach (low_end other) (high_end other)
+            ≤ 6 * (2 ^ SCALE * 2 ^ SCALE) }
         ensures value { result ≡ values.product self other }
-        ensures held { (x y : ℚ) → Encloses SCALE (low_end self) (high_end self) x → Encloses SCALE (low_end other) (high_end other) y → Encloses SCALE (low_end result) (high_end result) (x *ℚ y) }
-        ensures width { width (low_end result) (high_end result) * 2 ^ SCALE ≤ reach (low_end self) (high_end self) * width (low_end other) (high_end other) + reach (low_end other) (high_end other) * width (low_end self) (high_end self) + unsigned_abs SLOP * 2 ^ SCALE };
+        ensures held { (x y : ℚ)
+            → Encloses SCALE (low_end self) (high_end self) x
+            → Encloses SCALE (low_end other) (high_end other) y
+            → Encloses SCALE (low_end result) (high_end result) (x *ℚ y) }
+        ensures width { width (low_end result) (high_end result) * 2 ^ SCALE
+            ≤ reach (low_end self) (high_end self) * width (low_end other) (high_end other)
+            + reach (low_end other) (high_end other) * width (low_end self) (high_end self)
+            + unsigned_abs SLOP * 2 ^ SCALE };
 
     /// An enclosure of the multiples of what is held.
     fn times_whole(self, k: i64) -> Self
         requires { reach (low_end self) (high_end self) * unsigned_abs k ≤ 6 * 2 ^ SCALE }
         ensures value { result ≡ values.multiple self k }
-        ensures held { (x : ℚ) → Encloses SCALE (low_end self) (high_end self) x → Encloses SCALE (low_end result) (high_end result) (x *ℚ whole k) }
-        ensures width { width (low_end result) (high_end result) ≤ width (low_end self) (high_end self) * unsigned_abs k + unsigned_abs SLOP };
+        ensures held { (x : ℚ)
+            → Encloses SCALE (low_end self) (high_end self) x
+            → Encloses SCALE (low_end result) (high_end result) (x *ℚ whole k) }
+        ensures width { width (low_end result) (high_end result)
+            ≤ width (low_end self) (high_end self) * unsigned_abs k + unsigned_abs SLOP };
 
     /// An enclosure of what is held over a whole number of at least 1.
     fn over_positive(self, k: i64) -> Self
         requires { pos 1 ≤ℤ k }
         ensures value { result ≡ values.quotient self k }
-        ensures held { (x : ℚ) → Encloses SCALE (low_end self) (high_end self) x → Encloses SCALE (low_end result) (high_end result) (x /ℚ whole k) }
-        ensures width { width (low_end result) (high_end result) * unsigned_abs k ≤ width (low_end self) (high_end self) + unsigned_abs SLOP * unsigned_abs k };
+        ensures held { (x : ℚ)
+            → Encloses SCALE (low_end self) (high_end self) x
+            → Encloses SCALE (low_end result) (high_end result) (x /ℚ whole k) }
+        ensures width { width (low_end result) (high_end result) * unsigned_abs k
+            ≤ width (low_end self) (high_end self) + unsigned_abs SLOP * unsigned_abs k };
 
     /// An enclosure of the squares of what is held.
     fn square(self) -> Self
         requires { reach (low_end self) (high_end self) ≤ 2 * 2 ^ SCALE }
         ensures value { result ≡ values.square self }
-        ensures held { (x : ℚ) → Encloses SCALE (low_end self) (high_end self) x → Encloses SCALE (low_end result) (high_end result) (x *ℚ x) }
-        ensures width { width (low_end result) (high_end result) * 2 ^ SCALE ≤ 2 * (reach (low_end self) (high_end self) * width (low_end self) (high_end self)) + unsigned_abs SLOP * 2 ^ SCALE };
+        ensures held { (x : ℚ)
+            → Encloses SCALE (low_end self) (high_end self) x
+            → Encloses SCALE (low_end result) (high_end result) (x *ℚ x) }
+        ensures width { width (low_end result) (high_end result) * 2 ^ SCALE
+            ≤ 2 * (reach (low_end self) (high_end self) * width (low_end self) (high_end self))
+            + unsigned_abs SLOP * 2 ^ SCALE };
 
     /// An enclosure of each fraction of at least 0 whose square is held, from about 0.
     fn root_up(self) -> Self
         requires sign { pos 0 ≤ℤ high_end self }
         requires room { high_end self ≤ℤ pos (6 * 2 ^ SCALE) }
         ensures value { result ≡ values.root self }
-        ensures held { (x : ℚ) → whole (pos 0) ≤ℚ x → Encloses SCALE (low_end self) (high_end self) (x *ℚ x) → Encloses SCALE (low_end result) (high_end result) x }
+        ensures held { (x : ℚ)
+            → whole (pos 0) ≤ℚ x
+            → Encloses SCALE (low_end self) (high_end self) (x *ℚ x)
+            → Encloses SCALE (low_end result) (high_end result) x }
         ensures low { (neg_ℤ SLOP ≤ℤ low_end result) × (low_end result ≤ℤ pos 0) }
-        ensures high { (high_end result ≤ℤ SLOP) ⊎ (((high_end result -ℤ SLOP) *ℤ (high_end result -ℤ SLOP)) <ℤ (high_end self *ℤ pos (2 ^ SCALE))) };
+        ensures high { (high_end result ≤ℤ SLOP)
+            ⊎ (((high_end result -ℤ SLOP) *ℤ (high_end result -ℤ SLOP)) <ℤ (high_end self *ℤ pos (2 ^ SCALE))) };
 
     /// An enclosure of all that either holds.
     fn hull(self, other: Self) -> Self
         requires first { reach (low_end self) (high_end self) ≤ 6 * 2 ^ SCALE }
         requires second { reach (low_end other) (high_end other) ≤ 6 * 2 ^ SCALE }
         ensures value { result ≡ values.hull self other }
-        ensures first { (x : ℚ) → Encloses SCALE (low_end self) (high_end self) x → Encloses SCALE (low_end result) (high_end result) x }
-        ensures second { (x : ℚ) → Encloses SCALE (low_end other) (high_end other) x → Encloses SCALE (low_end result) (high_end result) x }
-        ensures width { width (low_end result) (high_end result) ≤ width (int_min (low_end self) (low_end other)) (int_max (high_end self) (high_end other)) + unsigned_abs SLOP };
+        ensures first { (x : ℚ)
+            → Encloses SCALE (low_end self) (high_end self) x
+            → Encloses SCALE (low_end result) (high_end result) x }
+        ensures second { (x : ℚ)
+            → Encloses SCALE (low_end other) (high_end other) x
+            → Encloses SCALE (low_end result) (high_end result) x }
+        ensures width { width (low_end result) (high_end result)
+            ≤ width (int_min (low_end self) (low_end other)) (int_max (high_end self) (high_end other))
+            + unsigned_abs SLOP };
 
     /// Where the ends lie to a margin of at least 0 round 0.
     fn sign(self, margin: i64) -> Sign
@@ -127,7 +168,8 @@ pub trait Enclosure: Copy {
         ensures value { result ≡ sign_of (low_end self) (high_end self) margin }
         ensures below { (result ≡ Below) ↔ (high_end self <ℤ neg_ℤ margin) }
         ensures above { (result ≡ Above) ↔ (margin <ℤ low_end self) }
-        ensures mixed { (result ≡ Mixed) ↔ ((neg_ℤ margin ≤ℤ high_end self) × (low_end self ≤ℤ margin)) };
+        ensures mixed { (result ≡ Mixed)
+            ↔ ((neg_ℤ margin ≤ℤ high_end self) × (low_end self ≤ℤ margin)) };
 
     /// Half the sum of the ends, rounded down.
     fn middle(self) -> i64

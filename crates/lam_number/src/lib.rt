@@ -6,8 +6,15 @@ mod arithmetic;
 mod enclosure;
 mod fix;
 mod fixed;
+mod products;
 mod scales;
+mod strength;
 mod wide;
 
 pub use enclosure::{Enclosure, Sign};
 pub use fix::Fix;
+pub use products::sum_of_products;
+pub use strength::{FaceStrain, Verdict};
+
+#[cfg(test)]
+mod tests;

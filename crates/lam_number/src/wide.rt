@@ -123,5 +123,6 @@ pub(crate) fn spread_sum(middle: u128, spread: u128, other_middle: u128, other_s
     requires { middle * other_spread + other_middle * spread + spread * other_spread < 2 ^ 128 }
     ensures { result ≡ middle * other_spread + other_middle * spread + spread * other_spread }
 {
-    middle * other_spread + other_middle * spread + spread * other_spread
+    let crossed = middle * other_spread + other_middle * spread;
+    crossed + spread * other_spread
 }

@@ -1,4 +1,9 @@
 pub mod Digits
 pub mod Blanks
 pub mod Quotients
+pub mod TextRows
+pub mod TestFacts
+pub mod Columns
+pub mod ScaleSteps
+pub mod Meaning
 pub mod PlyLawTrials

@@ -1,7 +1,11 @@
 pub mod Field
 pub mod Moduli
 pub mod Limits
+pub mod Tests
 pub mod Rows
+pub mod Scale
 pub mod Stock
+pub mod Likeness
+pub mod Catalogue
 pub mod PlyLaw
 pub mod TsaiWu

@@ -1,6 +1,7 @@
 // The limits on the numbers of an item.
 
 ghost use Rattle.std.specs.Prelude.{◌≡◌, ◌+◌, ◌*◌, ◌^◌, ◌<◌, ◌≤◌, ◌↔◌, IsTrue, OnOk, pos, ◌*ℤ◌, ◌≤ℤ◌, unsigned_abs};
+ghost use Rattle.lam_stock.specs.Tests.{limits_of};
 ghost use Rattle.lam_stock.specs.Limits.{InRange, ModuliInRange, StrengthsInRange, RestInRange, IsStrength, KeepsPoisson, KeepsRatio, IsNear, KeepsCross, KeepsSlack, HasSlack, KeepsLimits};
 
 use crate::fault::StockCause;
@@ -8,8 +9,9 @@ use crate::item::Lamina;
 use crate::moduli::{size, stiffness};
 
 /// Answers the first of the limits that a lamina and its cost break, if there is one.
-pub fn check(lamina: &Lamina, cost: i64) -> Result<(), StockCause>
-    ensures { OnOk result (KeepsLimits lamina.now cost) }
+pub fn check(lamina: &Lamina, cost: &i64) -> Result<(), StockCause>
+    ensures first { result ≡ limits_of lamina.now cost.now }
+    ensures kept { OnOk result (KeepsLimits lamina.now cost.now) }
 {
     if !in_range(lamina, cost) {
         return Err(StockCause::Range);
@@ -30,8 +32,8 @@ pub fn check(lamina: &Lamina, cost: i64) -> Result<(), StockCause>
 }
 
 // tells whether each number is in range
-fn in_range(lamina: &Lamina, cost: i64) -> bool
-    ensures { IsTrue result ↔ InRange lamina.now cost }
+fn in_range(lamina: &Lamina, cost: &i64) -> bool
+    ensures { IsTrue result ↔ InRange lamina.now cost.now }
 {
     if !moduli_in_range(lamina) || !strengths_in_range(lamina) {
         return false;
@@ -76,8 +78,8 @@ fn is_strength(x: &i64) -> bool
 }
 
 // tells whether the interaction term, the thickness and the cost are in range
-fn rest_in_range(lamina: &Lamina, cost: i64) -> bool
-    ensures { IsTrue result ↔ RestInRange lamina.now cost }
+fn rest_in_range(lamina: &Lamina, cost: &i64) -> bool
+    ensures { IsTrue result ↔ RestInRange lamina.now cost.now }
 {
     if lamina.f12 < -1_000_000_000_000 || lamina.f12 > 1_000_000_000_000 {
         return false;
@@ -85,7 +87,7 @@ fn rest_in_range(lamina: &Lamina, cost: i64) -> bool
     if lamina.t < 50 || lamina.t > 20_000 {
         return false;
     }
-    cost >= 0 && cost <= 1_000_000_000
+    *cost >= 0 && *cost <= 1_000_000_000
 }
 
 // tells whether the Poisson number is not too great for the moduli

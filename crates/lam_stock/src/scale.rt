@@ -1,10 +1,11 @@
 // The scale of a catalogue.
 
-ghost use Rattle.std.specs.Prelude.{◌≡◌, ◌<◌, ◌≤◌, ◌≤ℤ◌, pos, length, All};
+ghost use Rattle.std.specs.Prelude.{◌≡◌, ◌≤◌, ◌≤ℤ◌, pos, All};
+ghost use Rattle.lam_stock.specs.Scale as spec;
 ghost use Rattle.lam_stock.specs.Limits.{ModuliInRange};
 
 use crate::item::Item;
-use crate::moduli::{softness, stiffness};
+use crate::moduli::{size, softness, stiffness};
 
 /// The scale that the stiffnesses of a catalogue are counted on.
 #[derive(Clone, Copy, PartialEq, Eq, Debug)]
@@ -18,11 +19,12 @@ pub struct Scale {
 /// The scale of at least one item.
 pub fn scale_of(items: &[Item]) -> Scale
     requires { All (λ i. ModuliInRange i.lamina) items.now }
+    ensures value { result ≡ spec.scale_of items.now }
     ensures least { pos 500 ≤ℤ result.floor }
     ensures greatest { result.floor ≤ℤ pos 400000 }
 {
     Scale {
-        q0: power_above(stiffest(items)),
+        q0: power_above(size(&stiffest(items))) as i64,
         floor: softest(items),
     }
 }
@@ -30,6 +32,7 @@ pub fn scale_of(items: &[Item]) -> Scale
 // the greatest of the moduli that the scale has to cover
 fn stiffest(items: &[Item]) -> i64
     requires { All (λ i. ModuliInRange i.lamina) items.now }
+    ensures value { result ≡ spec.stiffest items.now }
     ensures least { pos 0 ≤ℤ result }
     ensures greatest { result ≤ℤ pos 1600000 }
 {
@@ -46,6 +49,7 @@ fn stiffest(items: &[Item]) -> i64
 // the least of the moduli that the scale has to keep apart from 0
 fn softest(items: &[Item]) -> i64
     requires { All (λ i. ModuliInRange i.lamina) items.now }
+    ensures value { result ≡ spec.softest items.now }
     ensures least { pos 500 ≤ℤ result }
     ensures greatest { result ≤ℤ pos 400000 }
 {
@@ -60,11 +64,14 @@ fn softest(items: &[Item]) -> i64
 }
 
 // the least power of two that is at least a number
-fn power_above(most: i64) -> i64
-    requires least { pos 0 ≤ℤ most }
-    requires greatest { most ≤ℤ pos 1600000 }
-    ensures least { pos 1 ≤ℤ result }
-    ensures greatest { result ≤ℤ pos 4000000 }
+fn power_above(most: u64) -> u64
+    requires { most ≤ 1600000 }
+    ensures value { result ≡ spec.power_above most }
+    ensures small { result ≤ 3200000 }
 {
-    (most as u64).next_power_of_two() as i64
+    let mut power = 1;
+    while power < most {
+        power *= 2;
+    }
+    power
 }

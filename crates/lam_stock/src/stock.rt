@@ -1,10 +1,13 @@
 // The catalogue: its items, and its scale.
 
-ghost use Rattle.std.specs.Prelude.{◌≡◌, ◌<◌, ◌≤◌, ◌≤ℤ◌, ◌*ℤ◌, pos, length, All, IfSome};
+ghost use Rattle.std.specs.Prelude.{◌≡◌, ℕ, ◌<◌, ◌≤◌, ◌↔◌, ◌≤ℤ◌, ◌*ℤ◌, pos, length, All, IfSome, IfNone, IsSome, IsTrue, IsFalse, option_map};
+ghost use Rattle.lam_stock.specs.Likeness as spec;
+ghost use Rattle.lam_stock.specs.Scale.{IsScaleOf, scale_of as scale_spec};
 ghost use Rattle.lam_stock.specs.Stock.{WithinLimits};
 
-use crate::item::{Item, ItemNo, Kind};
+use crate::item::{Item, ItemNo, Kind, Lamina};
 use crate::scale::{Scale, scale_of};
+use lam_direction::Direction;
 use std::marker::Model;
 
 /// A catalogue of 1 to 64 items with names of their own.
@@ -33,7 +36,8 @@ impl Stock {
         requires some { 1 ≤ length items.items }
         requires few { length items.items ≤ 64 }
         requires limits { All WithinLimits items.items }
-        ensures { IfSome result (λ stock. stock ≡ items.items) }
+        ensures items { IfSome result (λ stock. stock ≡ items.items) }
+        ensures spread { IsSome result ↔ ((scale_spec items.items).q0 ≤ℤ (pos 512 *ℤ (scale_spec items.items).floor)) }
     {
         let scale = scale_of(&items);
         if scale.q0 > 512 * scale.floor {
@@ -54,6 +58,7 @@ impl Stock {
 
     /// The scale that the stiffnesses are counted on.
     pub fn scale(&self) -> Scale
+        ensures value { result ≡ scale_spec self.now }
         ensures spread { result.q0 ≤ℤ (pos 512 *ℤ result.floor) }
         ensures floor { pos 500 ≤ℤ result.floor }
     {
@@ -62,7 +67,8 @@ impl Stock {
 
     /// The item of this name.
     pub fn find(&self, name: &[u8]) -> Option<ItemNo>
-        ensures { IfSome result (λ no. no.0 < length self.now) }
+        ensures place { option_map (λ no. no.0) result ≡ spec.place_of name.now self.now }
+        ensures within { IfSome result (λ no. no.0 < length self.now) }
     {
         let place = place_of(&self.items, name)?;
         Some(ItemNo(place as u8))
@@ -72,9 +78,9 @@ impl Stock {
     pub fn alike(&self, a: ItemNo, b: ItemNo) -> bool
         requires first { a.0 < length self.now }
         requires second { b.0 < length self.now }
+        ensures { result ≡ spec.are_alike self.now a.0 b.0 }
     {
-        let (first, second) = (&self.items[a.0 as usize], &self.items[b.0 as usize]);
-        first.kind == second.kind && first.lamina == second.lamina && first.dir.same(&second.dir)
+        is_alike(&self.items[a.0 as usize], &self.items[b.0 as usize])
     }
 
     /// Tells whether two items are plies of the same lamina, and the direction of the first is the mirror image
@@ -82,18 +88,17 @@ impl Stock {
     pub fn mirrors(&self, a: ItemNo, b: ItemNo) -> bool
         requires first { a.0 < length self.now }
         requires second { b.0 < length self.now }
+        ensures { result ≡ spec.are_mirrors self.now a.0 b.0 }
     {
-        let (first, second) = (&self.items[a.0 as usize], &self.items[b.0 as usize]);
-        first.kind == Kind::Ply
-            && second.kind == Kind::Ply
-            && first.lamina == second.lamina
-            && first.dir.same(&second.dir.mirror())
+        is_mirror(&self.items[a.0 as usize], &self.items[b.0 as usize])
     }
 
     /// The first item that mirrors this one.
     pub fn mirror_of(&self, a: ItemNo) -> Option<ItemNo>
         requires { a.0 < length self.now }
-        ensures { IfSome result (λ no. no.0 < length self.now) }
+        ensures found { IfSome result (λ no. (no.0 < length self.now) × IsTrue (spec.are_mirrors self.now no.0 a.0)) }
+        ensures first { IfSome result (λ no. (b : ℕ) → b < no.0 → IsFalse (spec.are_mirrors self.now b a.0)) }
+        ensures none { IfNone result ((b : ℕ) → b < length self.now → IsFalse (spec.are_mirrors self.now b a.0)) }
     {
         for b in 0..self.items.len() {
             let no = ItemNo(b as u8);
@@ -107,7 +112,85 @@ impl Stock {
 
 /// The place of the first of some items that has this name.
 pub fn place_of(items: &[Item], name: &[u8]) -> Option<usize>
+    ensures place { result ≡ spec.place_of name.now items.now }
     ensures within { IfSome result (λ k. k < length items.now) }
 {
-    items.iter().position(|item| item.name.as_bytes() == name)
+    items.iter().position(|item| has_name(item, name))
+}
+
+/// Tells whether an item has a name.
+pub fn has_name(item: &Item, name: &[u8]) -> bool
+    ensures { result ≡ spec.has_name name.now item.now }
+{
+    item.name.as_bytes() == name
+}
+
+// tells whether two items have the same kind, lamina and direction
+fn is_alike(a: &Item, b: &Item) -> bool
+    ensures { result ≡ spec.is_alike a.now b.now }
+{
+    if !same_kind(a.kind, b.kind) {
+        return false;
+    }
+    if !same_lamina(&a.lamina, &b.lamina) {
+        return false;
+    }
+    same_point(&a.dir, &b.dir)
+}
+
+// tells whether two items are plies of the same lamina, and the direction of the first is the mirror image of that
+// of the second
+fn is_mirror(a: &Item, b: &Item) -> bool
+    ensures { result ≡ spec.is_mirror a.now b.now }
+{
+    if !is_ply(a.kind) {
+        return false;
+    }
+    if !is_ply(b.kind) {
+        return false;
+    }
+    if !same_lamina(&a.lamina, &b.lamina) {
+        return false;
+    }
+    same_point(&a.dir, &b.dir.mirror())
+}
+
+// tells whether a kind is that of a ply
+fn is_ply(kind: Kind) -> bool
+    ensures { result ≡ spec.is_ply kind }
+{
+    match kind {
+        Kind::Ply => true,
+        Kind::Pair => false,
+    }
+}
+
+// tells whether two kinds are the same
+fn same_kind(a: Kind, b: Kind) -> bool
+    ensures { result ≡ spec.same_kind a b }
+{
+    is_ply(a) == is_ply(b)
+}
+
+// tells whether two laminae are the same
+fn same_lamina(a: &Lamina, b: &Lamina) -> bool
+    ensures { result ≡ spec.same_lamina a.now b.now }
+{
+    numbers_of(a) == numbers_of(b)
+}
+
+// the numbers of a lamina
+fn numbers_of(l: &Lamina) -> [i64; 11]
+    ensures { result ≡ spec.numbers_of l.now }
+{
+    [
+        l.e1, l.e2, l.n12, l.g12, l.xt, l.xc, l.yt, l.yc, l.s, l.f12, l.t,
+    ]
+}
+
+// tells whether two directions are the same point of the unit circle
+fn same_point(a: &Direction, b: &Direction) -> bool
+    ensures { result ≡ spec.same_point a.now b.now }
+{
+    a.same(b)
 }

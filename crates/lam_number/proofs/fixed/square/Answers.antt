@@ -1,5 +1,5 @@
-use Rattle.std.proofs.Common.{arith, ap, ◌*◌, ◌^◌}
-use Rattle.lam_number.proofs.FixFacts.{fix_is, held_as, width_as}
+use Rattle.std.proofs.Common.{arith, ◌^◌}
+use Rattle.lam_number.proofs.FixFacts.{fix_is, held_as, scaled_width_as}
 use Rattle.lam_number.proofs.Holding.{product_held}
 use Rattle.lam_number.proofs.Widths.{product_width}
 use Rattle.lam_number.proofs.fixed.square.Goals as goal
@@ -12,5 +12,5 @@ returns-clause-held g c = λ p h. held_as _ _ _ _ _ _ c.squared.ensures.low c.sq
 
 pub returns-clause-width : goal.returns-clause-width
 returns-clause-width g c =
-    let same = width_as _ _ _ _ c.squared.ensures.low c.squared.ensures.high in
-    omega (arith, ap (λ n. n * 2 ^ g.row.S) same, product_width g.row.S c.args.x.low c.args.x.high c.args.x.low c.args.x.high c.args.x.ordered c.args.x.ordered)
+    let same = scaled_width_as (2 ^ g.row.S) _ _ _ _ c.squared.ensures.low c.squared.ensures.high in
+    omega (arith, same, product_width g.row.S c.args.x.low c.args.x.high c.args.x.low c.args.x.high c.args.x.ordered c.args.x.ordered)

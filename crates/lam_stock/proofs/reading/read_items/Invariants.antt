@@ -1,14 +1,16 @@
-use Rattle.std.proofs.Common.{◌≤◌, ◌-◌, length}
+use Rattle.std.proofs.Common.{◌≡◌, ◌≤◌, ◌-◌, length, []}
 use Rattle.std.specs.List.{All}
-use Rattle.lam_stock.specs.Rows.{IsRowReader}
+use Rattle.lam_stock.specs.Catalogue.{items_of}
+use Rattle.lam_stock.specs.Rows.{IsRowReader, rows_of}
 use Rattle.lam_stock.specs.Stock.{WithinLimits}
-use Rattle.lam_stock.proofs.reading.read_stock.Given as goal
+use Rattle.lam_stock.proofs.reading.read_items.Given as goal
 
 abbrev pub invariant-loop-items : goal.invariant-loop-items
 invariant-loop-items l = record {
   reader : IsRowReader l.reader;
   few : length l.items.items ≤ 64;
   limits : All WithinLimits l.items.items;
+  meaning : items_of l.items.items (rows_of l.reader) ≡ items_of [] (rows_of l.fn.reader);
 }
 
 abbrev pub decreases-loop-items : goal.decreases-loop-items
