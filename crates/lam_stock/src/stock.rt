@@ -194,3 +194,6 @@ fn same_point(a: &Direction, b: &Direction) -> bool
 {
     a.same(b)
 }
+
+#[cfg(test)]
+mod tests;
