@@ -5,5 +5,6 @@ pub mod TextRows
 pub mod TestFacts
 pub mod Columns
 pub mod ScaleSteps
+pub mod ScaleFacts
 pub mod Meaning
 pub mod PlyLawTrials

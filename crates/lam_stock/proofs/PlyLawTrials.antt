@@ -1,7 +1,7 @@
 -- The definitions tried on worked numbers.
-use Rattle.std.proofs.Common.{◌≡◌, refl}
-use Rattle.std.specs.Prelude.{ℤ, pos, negsuc, neg_ℤ, ◌*ℤ◌, ◌+ℤ◌, ◌-ℤ◌}
-use Rattle.lam_fraction.specs.Fraction.{ℚ, whole, fraction, class_of, ◌+ℚ◌, ◌-ℚ◌, ◌*ℚ◌, ◌/ℚ◌, opposite, inverse, ◌≤ℚ◌, ◌<ℚ◌, is_at_most}
+use Rattle.std.proofs.Common.{refl}
+use Rattle.std.specs.Prelude.{ℤ, pos}
+use Rattle.lam_fraction.specs.Fraction.{whole, fraction, class_of, ◌+ℚ◌, ◌-ℚ◌, ◌*ℚ◌, ◌/ℚ◌, opposite, inverse, ◌≤ℚ◌, ◌<ℚ◌, is_at_most}
 use Rattle.lam_fraction.specs.Quotient.{of_two, on_one, on_two}
 use Rattle.lam_stock.specs.declared.item.Lamina.{Lamina}
 use Rattle.lam_stock.specs.PlyLaw.{InPly}

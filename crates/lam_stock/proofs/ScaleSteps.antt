@@ -1,5 +1,5 @@
 -- The steps of the loops that find the scale.
-use Rattle.std.proofs.Common.{◌≡◌, ◌<◌, ◌≤◌, ◌+◌, ◌*◌, ◌^◌, ℕ, zero, suc, Bool, true, false, nat_le, List, length, take, get_or, ℤ, pos, ◌<ℤ◌, ◌≤ℤ◌, int_lt, refl, sym, ap, ◌∙◌, arith, rules}
+use Rattle.std.proofs.Common.{◌≡◌, ◌<◌, ◌≤◌, ◌+◌, ◌*◌, ◌^◌, ℕ, zero, suc, true, false, nat_le, List, length, take, get_or, ℤ, pos, ◌<ℤ◌, int_lt, refl, sym, ap, ◌∙◌, arith, rules}
 use Rattle.std.specs.Int.{int_max, int_min}
 use Rattle.std.proofs.lemmas.Int.{clamps, ints}
 use Rattle.std.proofs.lemmas.Bool.Decides.{nat_tests}

@@ -1,8 +1,7 @@
 -- What the tests of the limits tell.
-use Rattle.std.proofs.Common.{◌≡◌, ◌≤◌, ℕ, Ok, Err, Bool, true, false, ◌&&◌, ℤ, pos, negsuc, ◌*ℤ◌, ◌≤ℤ◌, int_le, refl, rules, arith, sym, ◌∙◌}
+use Rattle.std.proofs.Common.{◌≡◌, Ok, Err, Bool, true, false, ℤ, ◌≤ℤ◌, int_le, refl, rules, sym, ◌∙◌}
 use Rattle.std.specs.Bool.{Decides}
 use Rattle.std.proofs.lemmas.Bool.Decides.{Decides-and, Decides-like, same_from_decides}
-use Rattle.std.proofs.lemmas.Int.{ints}
 use Rattle.lam_stock.specs.Limits.{InRange, IsNear, IsStrength, KeepsCross, KeepsPoisson, KeepsRatio, KeepsSlack, HasSlack, ModuliInRange, RestInRange, StrengthsInRange}
 use Rattle.lam_stock.specs.Tests as test
 use Rattle.lam_stock.specs.declared.fault.StockCause.TheVariants as cause

@@ -1,5 +1,5 @@
 -- The scale of a catalogue.
-use Rattle.std.specs.Prelude.{◌≡◌, ℕ, zero, suc, ◌*◌, ◌^◌, ◌≤◌, nat_le, if◌then◌else◌, List, [], ◌∷◌, ℤ, pos, ◌≤ℤ◌, unsigned_abs, fold, All, Any}
+use Rattle.std.specs.Prelude.{◌≡◌, ℕ, zero, suc, ◌*◌, ◌^◌, nat_le, if◌then◌else◌, List, ℤ, pos, ◌≤ℤ◌, unsigned_abs, fold, All, Any}
 use Rattle.std.specs.Int.{int_max, int_min}
 use Rattle.lam_stock.specs.declared.item.Item.{Item}
 use Rattle.lam_stock.specs.declared.scale.Scale.{Scale}

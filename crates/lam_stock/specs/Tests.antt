@@ -1,5 +1,5 @@
 -- The limits on the numbers of an item, as tests, and the first that is broken.
-use Rattle.std.specs.Prelude.{ℕ, Bool, true, false, ◌&&◌, if◌then◌else◌, ℤ, pos, negsuc, ◌+ℤ◌, ◌*ℤ◌, int_le, Result, Ok, Err}
+use Rattle.std.specs.Prelude.{Bool, ◌&&◌, if◌then◌else◌, ℤ, pos, negsuc, ◌*ℤ◌, int_le, Result, Ok, Err}
 use Rattle.lam_stock.specs.Moduli.{stiffness}
 use Rattle.lam_stock.specs.declared.item.Lamina.{Lamina}
 use Rattle.lam_stock.specs.declared.fault.StockCause.{StockCause}

@@ -1,6 +1,6 @@
 -- The Tsai-Wu criterion in plane stress (Jones, the strength of a lamina under biaxial stress).
-use Rattle.std.specs.Prelude.{ℤ, pos, ◌*ℤ◌, ◌^◌}
-use Rattle.lam_fraction.specs.Fraction.{ℚ, whole, fraction, ◌+ℚ◌, ◌-ℚ◌, ◌*ℚ◌, ◌/ℚ◌, ◌≤ℚ◌}
+use Rattle.std.specs.Prelude.{pos, ◌*ℤ◌, ◌^◌}
+use Rattle.lam_fraction.specs.Fraction.{ℚ, whole, ◌+ℚ◌, ◌-ℚ◌, ◌*ℚ◌, ◌/ℚ◌, ◌≤ℚ◌}
 use Rattle.lam_stock.specs.declared.item.Lamina.{Lamina}
 use Rattle.lam_stock.specs.PlyLaw.{InPly}
 

@@ -1,6 +1,6 @@
 // The catalogue: its items, and its scale.
 
-ghost use Rattle.std.specs.Prelude.{◌≡◌, ℕ, ◌<◌, ◌≤◌, ◌↔◌, ◌≤ℤ◌, ◌*ℤ◌, pos, length, All, IfSome, IfNone, IsSome, IsTrue, IsFalse, option_map};
+ghost use Rattle.std.specs.Prelude.{◌≡◌, ℕ, ◌<◌, ◌≤◌, ◌↔◌, ◌≤ℤ◌, ◌*ℤ◌, ◌^◌, pos, length, All, IfSome, IfNone, IsSome, IsTrue, IsFalse, option_map};
 ghost use Rattle.lam_stock.specs.Likeness as spec;
 ghost use Rattle.lam_stock.specs.Scale.{IsScaleOf, scale_of as scale_spec};
 ghost use Rattle.lam_stock.specs.Stock.{WithinLimits};
@@ -59,8 +59,13 @@ impl Stock {
     /// The scale that the stiffnesses are counted on.
     pub fn scale(&self) -> Scale
         ensures value { result ≡ scale_spec self.now }
+        ensures scale { IsScaleOf self.now result }
+        ensures power { (k : ℕ) × (k ≤ 21) × (result.q0 ≡ pos (2 ^ k)) }
         ensures spread { result.q0 ≤ℤ (pos 512 *ℤ result.floor) }
+        ensures least { pos 4000 ≤ℤ result.q0 }
+        ensures greatest { result.q0 ≤ℤ pos 2097152 }
         ensures floor { pos 500 ≤ℤ result.floor }
+        ensures ceiling { result.floor ≤ℤ pos 400000 }
     {
         self.scale
     }

@@ -1,3 +1,13 @@
 pub mod FourWords
 pub mod Keys
 pub mod JobBytes
+pub mod CriterionTerms
+pub mod CriterionTrials
+pub mod RatioMet
+pub mod ReadAgain
+pub mod ScaledValue
+pub mod SomeHeld
+pub mod StepFacts
+pub mod OrderFacts
+pub mod Endings
+pub mod AnalysisText

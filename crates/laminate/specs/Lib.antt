@@ -3,3 +3,9 @@ pub mod Job
 pub mod Analysis
 pub mod Spelled
 pub mod Read
+pub mod ScaledCriterion
+pub mod StrengthRatio
+pub mod Faults
+pub mod Request
+pub mod Answers
+pub mod Steps

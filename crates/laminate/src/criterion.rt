@@ -5,20 +5,18 @@
 //! the value is (f - 1)/4096, so that every term is of moderate size. A step whose number leaves the
 //! enclosures' range answers None, and the factor then isn't met.
 
-ghost use Rattle.std.specs.Prelude.{◌≤◌, ◌≤ℤ◌, pos};
+ghost use Rattle.std.specs.Prelude.{◌≡◌, ◌≤◌, ◌≤ℤ◌, ◌<ℤ◌, ◌-ℤ◌, pos, IfSome, IsTrue};
+ghost use Rattle.lam_fraction.specs.Fraction.{ℚ, whole};
+ghost use Rattle.lam_number.specs.Encloses.{Encloses};
+ghost use Rattle.lam_stock.specs.PlyLaw.{InPly};
+ghost use Rattle.lam_stock.specs.TsaiWu.{RatioAtLeast};
+ghost use Rattle.laminate.specs.ScaledCriterion.{Terms, linear_coefficient, quadratic_coefficient, mixed_coefficient, scaled_stress, terms_of, scaled_of, axis_value, scaled_value, HoldsTerms, HoldsScaled};
+ghost use Rattle.laminate.specs.StrengthRatio.{PositiveStrengths, ply_stress_of};
 
 use crate::guarded::{difference, product, ratio, square, sum, times, unit};
+use crate::ply_stress::PlyStress;
 use lam_number::{Enclosure, Sign};
 use lam_stock::Lamina;
-
-/// A ply stress over one thickness: in MPa each component is its numerator, in N/m, over `thickness`, in µm.
-#[derive(Clone, Copy, Debug, PartialEq, Eq)]
-pub struct PlyStress {
-    pub along: i64,
-    pub across: i64,
-    pub shear: i64,
-    pub thickness: i64,
-}
 
 /// The coefficients of the value.
 #[derive(Clone, Copy)]
@@ -40,7 +38,11 @@ struct Utilisation<N> {
     shear: N,
 }
 
-fn coefficients_of<N: Enclosure>(lamina: &Lamina) -> Option<Coefficients<N>> {
+/// The coefficients at a lamina.
+fn coefficients_of<N: Enclosure>(lamina: &Lamina) -> Option<Coefficients<N>>
+    requires { PositiveStrengths lamina.now }
+    ensures { IfSome result (λ by. HoldsTerms N.SCALE N.low_end N.high_end by (terms_of lamina.now)) }
+{
     Some(Coefficients {
         along: linear(lamina.xt, lamina.xc)?,
         across: linear(lamina.yt, lamina.yc)?,
@@ -53,22 +55,32 @@ fn coefficients_of<N: Enclosure>(lamina: &Lamina) -> Option<Coefficients<N>> {
 }
 
 /// The coefficient of y/16 along an axis: (C - T)/(256 m), with m the lesser of the strengths T and C.
-fn linear<N: Enclosure>(tension: i64, compression: i64) -> Option<N> {
+fn linear<N: Enclosure>(tension: i64, compression: i64) -> Option<N>
+    ensures { IfSome result (λ z. Encloses N.SCALE (N.low_end z) (N.high_end z) (linear_coefficient tension compression)) }
+{
     let lesser = i128::from(tension.min(compression));
-    ratio(
-        i128::from(compression) - i128::from(tension),
-        times(256, lesser)?,
-    )
+    ratio(excess(compression, tension), times(256, lesser)?)
+}
+
+/// How far a number is above another.
+fn excess(a: i64, b: i64) -> i128
+    ensures { result ≡ a -ℤ b }
+{
+    i128::from(a) - i128::from(b)
 }
 
 /// The coefficient of (y/16)²: M/(16 m), with M the greater of the strengths.
-fn quadratic<N: Enclosure>(tension: i64, compression: i64) -> Option<N> {
+fn quadratic<N: Enclosure>(tension: i64, compression: i64) -> Option<N>
+    ensures { IfSome result (λ z. Encloses N.SCALE (N.low_end z) (N.high_end z) (quadratic_coefficient tension compression)) }
+{
     let lesser = i128::from(tension.min(compression));
     ratio(i128::from(tension.max(compression)), times(16, lesser)?)
 }
 
 /// The coefficient of the product of both variables: F12 X Y/(8·10¹⁸), with X and Y the greater strengths.
-fn mixed<N: Enclosure>(lamina: &Lamina) -> Option<N> {
+fn mixed<N: Enclosure>(lamina: &Lamina) -> Option<N>
+    ensures { IfSome result (λ z. Encloses N.SCALE (N.low_end z) (N.high_end z) (mixed_coefficient lamina.now)) }
+{
     let x = i128::from(lamina.xt.max(lamina.xc));
     let y = i128::from(lamina.yt.max(lamina.yc));
     ratio(
@@ -78,14 +90,11 @@ fn mixed<N: Enclosure>(lamina: &Lamina) -> Option<N> {
 }
 
 /// A stress times a factor, over 16 times a strength.
-fn over_strength<N: Enclosure>(
-    stress: i64,
-    thickness: i64,
-    thousandths: u16,
-    strength: i64,
-) -> Option<N> {
+fn over_strength<N: Enclosure>(stress: i64, over: i64, thousandths: u16, strength: i64) -> Option<N>
+    ensures { IfSome result (λ z. Encloses N.SCALE (N.low_end z) (N.high_end z) (scaled_stress stress over thousandths strength)) }
+{
     let load = times(i128::from(stress), i128::from(thousandths))?;
-    let bearing = times(i128::from(thickness), i128::from(strength))?;
+    let bearing = times(i128::from(over), i128::from(strength))?;
     ratio(load, times(16, bearing)?)
 }
 
@@ -93,23 +102,29 @@ fn utilisation_of<N: Enclosure>(
     lamina: &Lamina,
     stress: &PlyStress,
     thousandths: u16,
-) -> Option<Utilisation<N>> {
+) -> Option<Utilisation<N>>
+    ensures { IfSome result (λ y. HoldsScaled N.SCALE N.low_end N.high_end y (scaled_of lamina.now stress.now thousandths)) }
+{
     let x = lamina.xt.max(lamina.xc);
     let y = lamina.yt.max(lamina.yc);
     Some(Utilisation {
-        along: over_strength(stress.along, stress.thickness, thousandths, x)?,
-        across: over_strength(stress.across, stress.thickness, thousandths, y)?,
-        shear: over_strength(stress.shear, stress.thickness, thousandths, lamina.s)?,
+        along: over_strength(stress.along, stress.over, thousandths, x)?,
+        across: over_strength(stress.across, stress.over, thousandths, y)?,
+        shear: over_strength(stress.shear, stress.over, thousandths, lamina.s)?,
     })
 }
 
 /// The terms of an axis: a y/16 + b (y/16)².
-fn axis_terms<N: Enclosure>(first: N, second: N, y: N) -> Option<N> {
+fn axis_terms<N: Enclosure>(first: N, second: N, y: N) -> Option<N>
+    ensures { IfSome result (λ z. (a b u : ℚ) → Encloses N.SCALE (N.low_end first) (N.high_end first) a → Encloses N.SCALE (N.low_end second) (N.high_end second) b → Encloses N.SCALE (N.low_end y) (N.high_end y) u → Encloses N.SCALE (N.low_end z) (N.high_end z) (axis_value a b u)) }
+{
     sum(product(first, y)?, product(second, square(y)?)?)
 }
 
 /// The value (f - 1)/4096.
-fn value<N: Enclosure>(by: &Coefficients<N>, y: &Utilisation<N>) -> Option<N> {
+fn value<N: Enclosure>(by: &Coefficients<N>, y: &Utilisation<N>) -> Option<N>
+    ensures { IfSome result (λ z. (k : Terms) (u : InPly) → HoldsTerms N.SCALE N.low_end N.high_end by.now k → HoldsScaled N.SCALE N.low_end N.high_end y.now u → Encloses N.SCALE (N.low_end z) (N.high_end z) (scaled_value k u)) }
+{
     let along = axis_terms(by.along, by.along_square, y.along)?;
     let across = axis_terms(by.across, by.across_square, y.across)?;
     let mixed = product(by.mixed, product(y.along, y.across)?)?;
@@ -131,19 +146,25 @@ fn meets<N: Enclosure>(
     by: &Coefficients<N>,
     stress: &PlyStress,
     thousandths: u16,
-) -> bool {
-    match utilisation_of(lamina, stress, thousandths) {
-        Some(y) => match value(by, &y) {
-            Some(value) => value.sign(margin(N::SCALE)) == Sign::Below,
-            None => false,
-        },
-        None => false,
-    }
+) -> bool
+    requires strengths { PositiveStrengths lamina.now }
+    requires held { HoldsTerms N.SCALE N.low_end N.high_end by.now (terms_of lamina.now) }
+    ensures { IsTrue result → RatioAtLeast lamina.now (ply_stress_of stress.now) (whole (pos thousandths)) }
+{
+    let Some(y) = utilisation_of(lamina, stress, thousandths) else {
+        return false;
+    };
+    let Some(value) = value(by, &y) else {
+        return false;
+    };
+    matches!(value.sign(margin(N::SCALE)), Sign::Below)
 }
 
 /// The strength ratio in thousandths, rounded down, from 0 to 20,000: 0, or a factor that the ply meets.
 pub fn printed_ratio<N: Enclosure>(lamina: &Lamina, stress: &PlyStress) -> u16
-    ensures { result ≤ 20000 }
+    requires { PositiveStrengths lamina.now }
+    ensures bound { result ≤ 20000 }
+    ensures met { RatioAtLeast lamina.now (ply_stress_of stress.now) (whole (pos result)) }
 {
     let Some(by) = coefficients_of::<N>(lamina) else {
         return 0;
@@ -159,4 +180,44 @@ pub fn printed_ratio<N: Enclosure>(lamina: &Lamina, stress: &PlyStress) -> u16
         }
     }
     met
+}
+
+#[cfg(test)]
+mod tests {
+    use super::*;
+    use lam_number::Fix;
+
+    /// The ratio of a mat of 100 MPa, and of `yc` in compression across, under a stress across.
+    fn printed_across(across: i64, yc: i64) -> u16
+        requires { pos 0 <ℤ yc }
+    {
+        let lamina = Lamina {
+            e1: 10_000,
+            e2: 10_000,
+            n12: 0,
+            g12: 5_000,
+            xt: 100_000,
+            xc: 100_000,
+            yt: 100_000,
+            yc,
+            s: 50_000,
+            f12: 0,
+            t: 5_000,
+        };
+        let stress = PlyStress {
+            along: 0,
+            across,
+            shear: 0,
+            over: 1,
+        };
+        printed_ratio::<Fix<60>>(&lamina, &stress)
+    }
+
+    #[test]
+    fn a_tie_prints_one_below(rt: HostRuntime) {
+        assert_eq!(rt; printed_across(0, 100_000), 20_000);
+        assert_eq!(rt; printed_across(18, 100_000), 5_555);
+        assert_eq!(rt; printed_across(20, 100_000), 4_999);
+        assert_eq!(rt; printed_across(-20, 200_000), 9_999);
+    }
 }

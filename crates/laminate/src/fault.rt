@@ -1,5 +1,8 @@
 //! The faults that end a run, with their lines and their statuses.
 
+ghost use Rattle.std.specs.Prelude.{◌≡◌, Some};
+ghost use Rattle.laminate.specs.Faults.{cause_text, fault_status, fault_text};
+
 use crate::status::Status;
 use lam_stock::{StockCause, StockFault};
 use std::fmt;
@@ -34,7 +37,10 @@ pub enum Stop {
 }
 
 impl Fault {
-    pub fn status(&self) -> Status {
+    /// The status that a run ends with at this fault.
+    pub fn status(&self) -> Status
+        ensures { result ≡ fault_status self.now }
+    {
         match self {
             Fault::Usage => Status::Usage,
             Fault::CannotRead(_) => Status::ReadFault,
@@ -44,6 +50,8 @@ impl Fault {
 }
 
 impl fmt::Display for Fault {
+    ghost output = { λ f. Some (fault_text f) };
+
     /// The fault's line, without its end.
     fn fmt<W: fmt::Write>(&self, f: &mut fmt::Formatter<W>) -> fmt::Result {
         match self {
@@ -65,7 +73,9 @@ impl fmt::Display for Fault {
 }
 
 /// The word that a cause is printed as.
-fn cause_word(cause: StockCause) -> &'static str {
+fn cause_word(cause: StockCause) -> &'static str
+    ensures { result.now ≡ cause_text cause }
+{
     match cause {
         StockCause::Empty => "empty",
         StockCause::Header => "header",

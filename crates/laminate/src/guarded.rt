@@ -1,6 +1,9 @@
 //! Calls that test their condition first, and answer None where it isn't met.
 
-ghost use Rattle.std.specs.Prelude.{◌≡◌, ◌^◌, ◌≤◌, ◌*ℤ◌, IfSome};
+ghost use Rattle.std.specs.Prelude.{◌≡◌, ◌^◌, ◌≤◌, ◌*ℤ◌, ◌<ℤ◌, pos, IfSome, FitsSigned};
+ghost use Rattle.std.specs.Int.{w128};
+ghost use Rattle.lam_fraction.specs.Fraction.{ℚ, fraction, ◌+ℚ◌, ◌-ℚ◌, ◌*ℚ◌};
+ghost use Rattle.lam_number.specs.Encloses.{Encloses};
 ghost use Rattle.lam_number.specs.Ends.{reach};
 
 use lam_number::Enclosure;
@@ -40,13 +43,17 @@ pub fn unit(scale: u32) -> u128
 
 /// The product of two whole numbers, where 128 bits hold it.
 pub fn times(a: i128, b: i128) -> Option<i128>
-    ensures { IfSome result (λ product. product ≡ a *ℤ b) }
+    ensures value { IfSome result (λ product. product ≡ a *ℤ b) }
+    ensures fits { IfSome result (λ product. FitsSigned w128 product) }
 {
     a.checked_mul(b)
 }
 
 /// The enclosure of a ratio.
-pub fn ratio<N: Enclosure>(num: i128, den: i128) -> Option<N> {
+pub fn ratio<N: Enclosure>(num: i128, den: i128) -> Option<N>
+    ensures positive { IfSome result (λ _. pos 0 <ℤ den) }
+    ensures held { IfSome result (λ z. Encloses N.SCALE (N.low_end z) (N.high_end z) (fraction num den)) }
+{
     let size = num.unsigned_abs();
     let over = den.unsigned_abs();
     if den > 0 && over <= WIDEST && size <= WIDEST && size <= 6 * over {
@@ -57,7 +64,9 @@ pub fn ratio<N: Enclosure>(num: i128, den: i128) -> Option<N> {
 }
 
 /// The enclosure of a sum.
-pub fn sum<N: Enclosure>(x: N, y: N) -> Option<N> {
+pub fn sum<N: Enclosure>(x: N, y: N) -> Option<N>
+    ensures { IfSome result (λ z. (u v : ℚ) → Encloses N.SCALE (N.low_end x) (N.high_end x) u → Encloses N.SCALE (N.low_end y) (N.high_end y) v → Encloses N.SCALE (N.low_end z) (N.high_end z) (u +ℚ v)) }
+{
     if reach_of(x) + reach_of(y) <= 6 * unit(N::SCALE) {
         Some(x.add(y))
     } else {
@@ -66,7 +75,9 @@ pub fn sum<N: Enclosure>(x: N, y: N) -> Option<N> {
 }
 
 /// The enclosure of a difference.
-pub fn difference<N: Enclosure>(x: N, y: N) -> Option<N> {
+pub fn difference<N: Enclosure>(x: N, y: N) -> Option<N>
+    ensures { IfSome result (λ z. (u v : ℚ) → Encloses N.SCALE (N.low_end x) (N.high_end x) u → Encloses N.SCALE (N.low_end y) (N.high_end y) v → Encloses N.SCALE (N.low_end z) (N.high_end z) (u -ℚ v)) }
+{
     if reach_of(x) + reach_of(y) <= 6 * unit(N::SCALE) {
         Some(x.sub(y))
     } else {
@@ -75,7 +86,9 @@ pub fn difference<N: Enclosure>(x: N, y: N) -> Option<N> {
 }
 
 /// The enclosure of a product.
-pub fn product<N: Enclosure>(x: N, y: N) -> Option<N> {
+pub fn product<N: Enclosure>(x: N, y: N) -> Option<N>
+    ensures { IfSome result (λ z. (u v : ℚ) → Encloses N.SCALE (N.low_end x) (N.high_end x) u → Encloses N.SCALE (N.low_end y) (N.high_end y) v → Encloses N.SCALE (N.low_end z) (N.high_end z) (u *ℚ v)) }
+{
     if reach_of(x) * reach_of(y) <= 6 * (unit(N::SCALE) * unit(N::SCALE)) {
         Some(x.mul(y))
     } else {
@@ -84,7 +97,9 @@ pub fn product<N: Enclosure>(x: N, y: N) -> Option<N> {
 }
 
 /// The enclosure of a square.
-pub fn square<N: Enclosure>(x: N) -> Option<N> {
+pub fn square<N: Enclosure>(x: N) -> Option<N>
+    ensures { IfSome result (λ z. (u : ℚ) → Encloses N.SCALE (N.low_end x) (N.high_end x) u → Encloses N.SCALE (N.low_end z) (N.high_end z) (u *ℚ u)) }
+{
     if reach_of(x) <= 2 * unit(N::SCALE) {
         Some(x.square())
     } else {

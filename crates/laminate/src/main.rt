@@ -8,7 +8,9 @@ mod criterion;
 mod fault;
 mod guarded;
 mod job;
+mod ply_stress;
 mod status;
+mod steps;
 mod top;
 mod words;
 

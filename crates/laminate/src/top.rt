@@ -1,18 +1,27 @@
 //! The top call: from the words and the files to the text and the status.
 
-use crate::analysis::{Analysis, Thousandths, analysis_text};
-use crate::criterion::{PlyStress, printed_ratio};
-use crate::fault::{Fault, Source, Stop};
-use crate::job::{Job, JobError, read_job};
-use crate::status::Status;
-use crate::words::{Order, read_words};
-use lam_number::Fix;
-use lam_outside::{Bytes, Files, Sink, TakeFault, Taken, put_text};
-use lam_stock::{Item, Kind, Stock, StockError, read_stock};
-use std::alloc::{AllocError, Global};
+ghost use Rattle.std.specs.Prelude.{◌≡◌, ◌≤◌, ◌⊎◌, ℕ, List, Some, None, Ok, Err, IfOk, string_bytes};
+ghost use Rattle.std.specs.Io.KnownBytes.{Appends};
+ghost use Rattle.lam_outside.specs.Counts.{Rose};
+ghost use Rattle.lam_outside.specs.Told.{GrowsByPrefix};
+ghost use Rattle.laminate.specs.Analysis.{analysis_of};
+ghost use Rattle.laminate.specs.Answers as spec;
+ghost use Rattle.laminate.specs.Answers.{Asks, Ends, EndsAs, EndsWith, IsDue, Readable, RoseFor, Unread, status_due};
+ghost use Rattle.laminate.specs.Faults.{fault_line};
+ghost use Rattle.laminate.specs.Reading.{OrderWords};
+ghost use Rattle.laminate.specs.Request.{IsRatioOf, Request, request_of, within_length};
+ghost use Rattle.laminate.specs.Spelled.{order_of};
+ghost use Rattle.laminate.specs.Steps.{AnswersWords, Says};
+ghost use Rattle.laminate.specs.declared.fault.Fault.{Fault};
+ghost use Rattle.laminate.specs.declared.fault.Source.{Source};
 
-/// The greatest length of a job or a catalogue, in bytes.
-const GREATEST_INPUT: u64 = 1_048_576;
+use crate::analysis::{Analysis, analysis_text};
+use crate::fault::{Fault, Stop};
+use crate::status::Status;
+use crate::steps::analyse;
+use crate::words::read_words;
+use lam_outside::{Files, Sink, put_text};
+use std::alloc::{AllocError, Global};
 
 /// What is to be written, and the status that goes with it.
 #[derive(Drop)]
@@ -27,107 +36,126 @@ pub fn run<F: Files, K: Sink>(
     words: &[String],
     files: &mut F,
     sink: &mut K,
-) -> Status {
-    let Ok(reply) = reply_to(alloc, words, files) else {
-        return Status::Memory;
-    };
+) -> Status
+    ensures same { (n : List ℕ) → F.contents files.new n ≡ F.contents files.old n }
+    ensures never_fall { (n : List ℕ) → F.faults files.old n ≤ F.faults files.new n }
+    ensures usage { result ≡ Status.Usage
+        → (order_of words.now ≡ None) × Appends (K.written sink.old) (K.written sink.new) (fault_line Fault.Usage) }
+    ensures unread { order_of words.now ≡ None → EndsAs Status.Usage result }
+    ensures refused { result ≡ Status.Refused
+        → (o : OrderWords) × (fault : Fault) × (order_of words.now ≡ Some o) × Asks (F.contents files.old) o (Err fault)
+        × Appends (K.written sink.old) (K.written sink.new) (fault_line fault) }
+    ensures read_fault { result ≡ Status.ReadFault
+        → (o : OrderWords) × (file : Source) × (order_of words.now ≡ Some o)
+        × Unread (F.contents files.old) (F.faults files.old) (F.faults files.new) o file
+        × Appends (K.written sink.old) (K.written sink.new) (fault_line (Fault.CannotRead file)) }
+    ensures done { result ≡ Status.Done
+        → (o : OrderWords) × (q : Request) × (r : ℕ) × (order_of words.now ≡ Some o) × Asks (F.contents files.old) o (Ok q)
+        × IsRatioOf q r × Appends (K.written sink.old) (K.written sink.new) (analysis_of q.item.cost r) }
+    ensures told { (o : OrderWords) (job catalogue : List ℕ) → order_of words.now ≡ Some o
+        → Readable (F.contents files.old) (F.faults files.old) (F.faults files.new) o job catalogue
+        → EndsAs (status_due (request_of job catalogue o.schedule)) result }
+    ensures long_job { (o : OrderWords) (job : List ℕ) (fault : Fault) → order_of words.now ≡ Some o
+        → F.contents files.old o.job ≡ Some job → within_length Source.Job job ≡ Err fault
+        → ¬ (RoseFor (F.faults files.old) (F.faults files.new) o Source.Job) → EndsAs Status.Refused result }
+    ensures complete { (o : OrderWords) (job catalogue : List ℕ) → order_of words.now ≡ Some o
+        → Readable (F.contents files.old) (F.faults files.old) (F.faults files.new) o job catalogue
+        → ¬ (Rose (K.faults sink.old) (K.faults sink.new)) → ¬ (Rose (K.stalls sink.old) (K.stalls sink.new))
+        → (result ≡ status_due (request_of job catalogue o.schedule)) ⊎ (result ≡ Status.Memory) }
+    ensures write_fault { result ≡ Status.WriteFault
+        → Rose (K.faults sink.old) (K.faults sink.new) ⊎ Rose (K.stalls sink.old) (K.stalls sink.new) }
+    ensures prefix { result ≡ Status.WriteFault
+        → (reply : spec.Reply) × IsDue (F.contents files.old) (F.faults files.old) (F.faults files.new) (order_of words.now) reply
+        × GrowsByPrefix (K.written sink.old) (K.written sink.new) reply.text }
+    ensures memory { result ≡ Status.Memory → sink.new ≡ sink.old }
+    ensures others { ¬ (result ≡ Status.Open) × ¬ (result ≡ Status.ReportRefused) }
+{
+    respond(alloc, words, files, sink)
+}
+
+/// Answers the words, and writes the reply.
+fn respond<F: Files, K: Sink>(
+    alloc: Global,
+    words: &[String],
+    files: &mut F,
+    sink: &mut K,
+) -> Status
+    ensures same { (n : List ℕ) → F.contents files.new n ≡ F.contents files.old n }
+    ensures never_fall { (n : List ℕ) → F.faults files.old n ≤ F.faults files.new n }
+    ensures memory { result ≡ Status.Memory → sink.new ≡ sink.old }
+    ensures ends { Ends (F.contents files.old) (F.faults files.old) (F.faults files.new)
+        (record {
+          written = K.written sink.old;
+          written_after = K.written sink.new;
+          faults = K.faults sink.old;
+          faults_after = K.faults sink.new;
+          stalls = K.stalls sink.old;
+          stalls_after = K.stalls sink.new;
+        })
+        (order_of words.now) result }
+{
+    match reply_to(alloc, words, files) {
+        Ok(reply) => write_reply(&reply, sink),
+        Err(_) => Status::Memory,
+    }
+}
+
+/// Writes a reply.
+fn write_reply<K: Sink>(reply: &Reply, sink: &mut K) -> Status
+    ensures { EndsWith
+        (record {
+          written = K.written sink.old;
+          written_after = K.written sink.new;
+          faults = K.faults sink.old;
+          faults_after = K.faults sink.new;
+          stalls = K.stalls sink.old;
+          stalls_after = K.stalls sink.new;
+        })
+        (record { status = reply.now.status; text = string_bytes reply.now.text }) result }
+{
     match put_text(sink, reply.text.as_bytes()) {
         Ok(()) => reply.status,
         Err(_) => Status::WriteFault,
     }
 }
 
-fn reply_to<F: Files>(alloc: Global, words: &[String], files: &mut F) -> Result<Reply, AllocError> {
-    let answer = match read_words(words) {
-        Some(order) => analyse(alloc, &order, files),
+/// The reply that is due to the words.
+fn reply_to<F: Files>(alloc: Global, words: &[String], files: &mut F) -> Result<Reply, AllocError>
+    ensures same { (n : List ℕ) → F.contents files.new n ≡ F.contents files.old n }
+    ensures never_fall { (n : List ℕ) → F.faults files.old n ≤ F.faults files.new n }
+    ensures due { IfOk result (λ reply. IsDue (F.contents files.old) (F.faults files.old) (F.faults files.new) (order_of words.now)
+        (record { status = reply.status; text = string_bytes reply.text })) }
+{
+    reply_of(alloc, answer_to(alloc, words, files))
+}
+
+/// The answer to the words.
+fn answer_to<F: Files>(alloc: Global, words: &[String], files: &mut F) -> Result<Analysis, Stop>
+    ensures same { (n : List ℕ) → F.contents files.new n ≡ F.contents files.old n }
+    ensures never_fall { (n : List ℕ) → F.faults files.old n ≤ F.faults files.new n }
+    ensures answers { AnswersWords (F.contents files.old) (F.faults files.old) (F.faults files.new) (order_of words.now) result }
+{
+    match read_words(words) {
+        Some(order) => analyse(alloc, files, order.job, order.catalogue, order.schedule),
         None => Err(Stop::Fault(Fault::Usage)),
-    };
+    }
+}
+
+/// The reply that says an answer.
+fn reply_of(alloc: Global, answer: Result<Analysis, Stop>) -> Result<Reply, AllocError>
+    ensures { IfOk result (λ reply. Says answer (record { status = reply.status; text = string_bytes reply.text })) }
+{
     match answer {
-        Ok(analysis) => {
-            let text = analysis_text(alloc, &analysis)?;
-            Ok(Reply {
-                status: Status::Done,
-                text,
-            })
-        }
-        Err(Stop::Fault(fault)) => {
-            let text = format!(in alloc; "{fault}\n")?;
-            Ok(Reply {
-                status: fault.status(),
-                text,
-            })
-        }
+        Ok(analysis) => Ok(Reply {
+            status: Status::Done,
+            text: analysis_text(alloc, &analysis)?,
+        }),
+        Err(Stop::Fault(fault)) => Ok(Reply {
+            status: fault.status(),
+            text: format!(in alloc; "{fault}\n")?,
+        }),
         Err(Stop::Memory) => Err(AllocError),
     }
-}
-
-fn analyse<F: Files>(alloc: Global, order: &Order, files: &mut F) -> Result<Analysis, Stop> {
-    let job = take(alloc, files, order.job, Source::Job)?;
-    let catalogue = take(alloc, files, order.catalogue, Source::Catalogue)?;
-    let stock = stock_of(alloc, catalogue.items())?;
-    let job = job_of(alloc, job.items())?;
-    let item = ply_of(&stock, order.schedule).ok_or(Stop::Fault(Fault::Unbuilt))?;
-    if !in_range(stock.scale().floor, item.lamina.t, &job) {
-        return Err(Stop::Fault(Fault::Unbuilt));
-    }
-    Ok(Analysis {
-        cost: item.cost,
-        ratio: Thousandths(ratio_of(item, &job)),
-    })
-}
-
-fn take<F: Files>(alloc: Global, files: &mut F, name: &str, source: Source) -> Result<Bytes, Stop> {
-    match files.take(alloc, name, GREATEST_INPUT) {
-        Ok(Taken::Whole(bytes)) => Ok(bytes),
-        Ok(Taken::TooLong) => Err(Stop::Fault(Fault::TooLong(source))),
-        Err(TakeFault::Failed) => Err(Stop::Fault(Fault::CannotRead(source))),
-        Err(TakeFault::Memory) => Err(Stop::Memory),
-    }
-}
-
-fn stock_of(alloc: Global, bytes: &[u8]) -> Result<Stock, Stop> {
-    match read_stock(alloc, bytes) {
-        Ok(stock) => Ok(stock),
-        Err(StockError::Refused(fault)) => Err(Stop::Fault(Fault::Catalogue(fault))),
-        Err(StockError::Memory) => Err(Stop::Memory),
-    }
-}
-
-fn job_of(alloc: Global, bytes: &[u8]) -> Result<Job, Stop> {
-    match read_job(alloc, bytes) {
-        Ok(job) => Ok(job),
-        Err(JobError::Unbuilt) => Err(Stop::Fault(Fault::Unbuilt)),
-        Err(JobError::Memory) => Err(Stop::Memory),
-    }
-}
-
-/// The ply that the schedule names, where it lies along the wall's axis.
-fn ply_of<'a>(stock: &'a Stock, schedule: &str) -> Option<&'a Item> {
-    let number = stock.find(schedule.as_bytes())?;
-    let item = &stock.items()[number.0 as usize];
-    let along_axis = item.dir.p() == 1 && item.dir.q() == 0 && item.dir.h() == 1;
-    if item.kind == Kind::Ply && along_axis {
-        Some(item)
-    } else {
-        None
-    }
-}
-
-/// Whether each force, over the thickness, is at most a quarter of the stock's floor stiffness.
-fn in_range(floor: i64, thickness: i64, job: &Job) -> bool {
-    let bound = i128::from(floor) * i128::from(thickness);
-    let within = |force: i64| 4 * i128::from(force).abs() <= bound;
-    within(job.nx) && within(job.ny) && within(job.nxy)
-}
-
-fn ratio_of(item: &Item, job: &Job) -> u16 {
-    let stress = PlyStress {
-        along: job.nx,
-        across: job.ny,
-        shear: job.nxy,
-        thickness: item.lamina.t,
-    };
-    printed_ratio::<Fix<60>>(&item.lamina, &stress)
 }
 
 #[cfg(test)]

@@ -9,6 +9,9 @@ const MAT: &str = "mat,ply,10000,10000,0,5000,100000,100000,100000,100000,50000,
 const WEAK_IN_TENSION: &str =
     "mat,ply,10000,10000,0,5000,100000,100000,100000,200000,50000,0,5000,1,0,1,10\n";
 
+const STIFF: &str =
+    "mat,ply,400000,400000,0,200000,5000000,5000000,5000000,5000000,5000000,0,20000,1,0,1,10\n";
+
 fn words(alloc: Global, texts: &[&str]) -> Result<Vec<String>, AllocError> {
     let mut words = Vec::new(alloc);
     for text in texts {
@@ -59,6 +62,8 @@ fn a_ratio_is_printed_rounded_down_and_a_tie_one_below(rt: HostRuntime) -> Resul
         ("ny = 100000", WEAK_IN_TENSION, "4.999"),
         ("ny = 0", MAT, "20.000"),
         ("ny = 6250000", MAT, "0.079"),
+        ("nx = 1000000000", STIFF, "0.099"),
+        ("nx = -1000000000", STIFF, "0.099"),
     ];
     for (forces, item, ratio) in rows {
         let (status, text) = analysis(rt.alloc(), forces, item)?;
@@ -77,8 +82,14 @@ fn each_fault_has_its_line_and_its_status(rt: HostRuntime) -> Result<(), Fail> {
     let usage: &[&str] = &[];
     let job = job_with(alloc, "ny = 90000")?;
     let catalogue = format!(in alloc; "{HEADER}{MAT}")?;
-    let rows: [(&[&str], Status, &str); 5] = [
+    let rows: [(&[&str], Status, &str); 7] = [
         (usage, Status::Usage, USAGE),
+        (&["design", "job", "catalogue", "mat"], Status::Usage, USAGE),
+        (
+            &["analyse", "job", "catalogue", "mat", "mat"],
+            Status::Usage,
+            USAGE,
+        ),
         (&["analyse", "job", "catalogue", "-x"], Status::Usage, USAGE),
         (
             &["analyse", "none", "catalogue", "mat"],
@@ -127,5 +138,76 @@ fn a_write_fault_leaves_a_prefix(rt: HostRuntime) -> Result<(), Fail> {
     let status = run(alloc, words.as_slice(), &mut files, &mut full);
     assert_eq!(rt; status, Status::WriteFault);
     assert_eq!(rt; full.written(), b"laminate a".as_slice());
+    Ok(())
+}
+
+/// Counts as many bytes as asked for: a text with ends of lines behind it.
+fn padded(alloc: Global, text: &str, length: usize) -> Result<String, AllocError> {
+    let mut padded = String::from_str(alloc, text)?;
+    for _ in text.len()..length {
+        padded.push('\n')?;
+    }
+    Ok(padded)
+}
+
+#[test]
+fn numbers_of_a_job_are_read_up_to_their_limits(rt: HostRuntime) -> Result<(), Fail> {
+    let rows = [
+        (0, 5000, "ny = 90000", MAT, Status::Refused),
+        (1, 5000, "ny = 90000", MAT, Status::Done),
+        (56, 5000, "ny = 90000", MAT, Status::Done),
+        (57, 5000, "ny = 90000", MAT, Status::Refused),
+        (4, 999, "ny = 90000", MAT, Status::Refused),
+        (4, 1000, "ny = 90000", MAT, Status::Done),
+        (4, 20_000, "ny = 90000", MAT, Status::Done),
+        (4, 20_001, "ny = 90000", MAT, Status::Refused),
+        (4, 5000, "ny = 6250001", MAT, Status::Refused),
+        (4, 5000, "nxy = -6250001", MAT, Status::Refused),
+        (4, 5000, "nx = 1000000001", STIFF, Status::Refused),
+        (4, 5000, "nx = -1000000001", STIFF, Status::Refused),
+    ];
+    for (limit, factor, forces, item, status) in rows {
+        let job = format!(in rt.alloc();
+            "version = 1\nlimit = {limit}\n[[case]]\nkind = \"resultants\"\nfactor = {factor}\n{forces}\n"
+        )?;
+        let catalogue = format!(in rt.alloc(); "{HEADER}{item}")?;
+        let (ended, _) = answer_to(
+            rt.alloc(),
+            &["analyse", "job", "catalogue", "mat"],
+            job.as_str(),
+            catalogue.as_str(),
+        )?;
+        assert_eq!(rt; ended, status, "limit {limit}, factor {factor}, {forces}");
+    }
+    Ok(())
+}
+
+#[test]
+fn files_are_read_up_to_their_greatest_length(rt: HostRuntime) -> Result<(), Fail> {
+    let alloc = rt.alloc();
+    let rows = [
+        (1_048_576, 1_048_576, Status::Done, "laminate analysis 1\n"),
+        (1_048_577, 1_048_577, Status::Refused, "refused unbuilt\n"),
+        (
+            0,
+            1_048_577,
+            Status::Refused,
+            "refused catalogue: too long\n",
+        ),
+    ];
+    for (job_length, catalogue_length, status, line) in rows {
+        let job = job_with(alloc, "ny = 90000")?;
+        let job = padded(alloc, job.as_str(), job_length)?;
+        let catalogue = format!(in alloc; "{HEADER}{MAT}")?;
+        let catalogue = padded(alloc, catalogue.as_str(), catalogue_length)?;
+        let (ended, text) = answer_to(
+            alloc,
+            &["analyse", "job", "catalogue", "mat"],
+            job.as_str(),
+            catalogue.as_str(),
+        )?;
+        assert_eq!(rt; ended, status, "{job_length}, {catalogue_length}");
+        assert!(rt; text.as_slice().starts_with(line.as_bytes()));
+    }
     Ok(())
 }

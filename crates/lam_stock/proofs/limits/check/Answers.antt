@@ -1,4 +1,4 @@
-use Rattle.std.proofs.Common.{refl, sym, true, false, ◌≡◌}
+use Rattle.std.proofs.Common.{refl, sym}
 use Rattle.lam_stock.proofs.TestFacts.{broken-cross, broken-poisson, broken-range, broken-ratio, broken-slack, cross-is, none-broken, poisson-is, range-is, ratio-is, slack-is}
 use Rattle.lam_stock.proofs.limits.check.Goals as goal
 

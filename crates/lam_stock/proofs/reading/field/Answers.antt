@@ -1,4 +1,4 @@
-use Rattle.std.proofs.Common.{sym, ◌∙◌, ap, ◌≡◌, []}
+use Rattle.std.proofs.Common.{sym, ◌∙◌, ap}
 use Rattle.csv.proofs.RecordFacts.{field-get, field-there}
 use Rattle.csv.specs.Records.{fields_of}
 use Rattle.lam_stock.specs.Field.{without_blanks}

@@ -1,4 +1,4 @@
-use Rattle.std.proofs.Common.{◌≡◌, ℕ, ◌<◌, get_or, []}
+use Rattle.std.proofs.Common.{◌≡◌, ℕ, ◌<◌}
 use Rattle.csv.specs.Records.{fields_of}
 use Rattle.lam_stock.specs.Catalogue.{column, column_names, columns_of}
 use Rattle.lam_stock.proofs.reading.is_header.Given as goal

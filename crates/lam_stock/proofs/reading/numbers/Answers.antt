@@ -1,4 +1,4 @@
-use Rattle.std.proofs.Common.{◌≡◌, ◌<◌, ◌+◌, length, take, drop, get_or, refl, sym, ap, ◌∙◌, arith, rules, Some, None, []}
+use Rattle.std.proofs.Common.{◌≡◌, ◌<◌, length, take, drop, get_or, sym, ap, ◌∙◌, arith, rules, Some, None, []}
 use mir.Val.{SFits}
 use mir.Syntax.{w64}
 use Rattle.std.proofs.lemmas.Int.{to_z-of_z}

@@ -1,7 +1,7 @@
-use Rattle.std.proofs.Common.{◌≡◌, ◌+◌, Bool, true, false, List, [], length, length-append, Result, Ok, Err, refl, sym, ap, ◌∙◌, arith, rules}
+use Rattle.std.proofs.Common.{◌≡◌, length, length-append, sym, ap, ◌∙◌, arith, rules}
 use Rattle.std.proofs.lemmas.List.Elements.{All-push}
 use Rattle.csv.specs.Records.{fields_of}
-use Rattle.lam_stock.specs.Catalogue.{columns_of, ended, item_of, items_of}
+use Rattle.lam_stock.specs.Catalogue.{columns_of, ended, item_of}
 use Rattle.lam_stock.specs.Rows.{rows_of}
 use Rattle.lam_stock.specs.Stock.{WithinLimits}
 use Rattle.lam_stock.proofs.Meaning.{gives-refused, gives-same, more-items, no-more-items, refused-item, took, took-none}

@@ -1,6 +1,5 @@
-use Rattle.std.proofs.Common.{◌≡◌, ◌≤ℤ◌, Bool, true, false, ℤ, int_lt, to_z, of_z, w64, sym, ap, ◌∙◌, arith, rules}
-use mir.Val.{SFits}
-use Rattle.std.proofs.lemmas.Int.{ints, to_z-of_z}
+use Rattle.std.proofs.Common.{◌≡◌, ℤ, int_lt, to_z, of_z, w64, sym, ap, ◌∙◌}
+use Rattle.std.proofs.lemmas.Int.{to_z-of_z}
 use Rattle.lam_stock.proofs.ScaleSteps.{softest-else, softest-then}
 use Rattle.lam_stock.proofs.scale.softest.Goals as goal
 use Rattle.lam_stock.proofs.scale.softest.Goals.{else-softness-least, then-softness-least}

@@ -1,5 +1,4 @@
-use Rattle.std.proofs.Common.{◌≡◌, ◌≤ℤ◌, Bool, true, false, ℤ, int_lt, to_z, of_z, w64, sym, ap, ◌∙◌, arith, rules}
-use mir.Val.{SFits}
+use Rattle.std.proofs.Common.{◌≡◌, ℤ, int_lt, to_z, of_z, w64, sym, ap, ◌∙◌, arith}
 use Rattle.std.proofs.lemmas.Int.{ints, to_z-of_z}
 use Rattle.lam_stock.proofs.ScaleSteps.{stiffest-else, stiffest-then}
 use Rattle.lam_stock.proofs.scale.stiffest.Goals as goal

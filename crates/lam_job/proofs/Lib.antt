@@ -1,0 +1,9 @@
+pub mod LoadFits
+pub mod Worked
+pub mod LoadTrials
+pub mod FieldTrials
+pub mod PlateTrials
+pub mod RuleTrials
+pub mod PartialTrials
+pub mod NearTrials
+pub mod DesignTrials

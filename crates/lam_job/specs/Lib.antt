@@ -1,0 +1,13 @@
+pub mod Ranges
+pub mod LoadOf
+pub mod Wall
+pub mod Field
+pub mod Equilibrium
+pub mod Schedule
+pub mod LoadRange
+pub mod Strength
+pub mod Plate
+pub mod Rules
+pub mod Design
+pub mod Near
+pub mod Partial

@@ -1,0 +1,36 @@
+// The cases of load of a job.
+
+ghost use Rattle.lam_job.specs.Ranges.{IsFactor, KindInRange};
+
+/// How a case loads the wall. Forces are in N/m and moments in mN, both per length of wall.
+#[derive(Clone, Copy, PartialEq, Eq, Debug)]
+pub enum CaseKind {
+    /// The force and moment resultants themselves.
+    Resultants {
+        nx: i64,
+        ny: i64,
+        nxy: i64,
+        mx: i64,
+        my: i64,
+        mxy: i64,
+    },
+    /// A pressure in kPa on a cylinder whose diameter is in mm, with closed or open ends, and besides an axial force
+    /// and bending moments.
+    Cylinder {
+        pressure: i64,
+        diameter: i64,
+        closed: bool,
+        axial: i64,
+        mx: i64,
+        my: i64,
+    },
+}
+
+/// A case of load, and the strength ratio that each ply has to have under it, in thousandths.
+#[derive(Clone, Copy, Debug)]
+pub struct Case {
+    pub kind: CaseKind,
+    pub factor: i64,
+    pub ghost kind_in_range: { KindInRange kind },
+    pub ghost factor_in_range: { IsFactor factor },
+}

@@ -1,0 +1,11 @@
+pub mod Identities
+pub mod Moduli
+pub mod Turning
+pub mod Form
+pub mod Steps
+pub mod Fourths
+pub mod Bounds
+pub mod Casts
+pub mod Results
+pub mod Entries
+pub mod Catalogue

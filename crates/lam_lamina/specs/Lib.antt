@@ -1,0 +1,7 @@
+pub mod Covered
+pub mod Formulas
+pub mod Held
+pub mod Known
+pub mod Stiffness
+pub mod Turn
+pub mod Values

@@ -1,0 +1,26 @@
+// What a stiffness consists of.
+
+/// The reduced stiffness of a lamina, in its own axes and over the scale's `q0`: what the normal strain along
+/// the fibres (1), the normal strain across them (2) and the shear strain (6) give as stresses.
+#[derive(Clone, Copy)]
+pub struct Reduced<N> {
+    /// The normal stress along the fibres at a strain along them.
+    pub q11: N,
+    /// The normal stress along the fibres at a strain across them, and the other way round.
+    pub q12: N,
+    /// The normal stress across the fibres at a strain across them.
+    pub q22: N,
+    /// The shear stress at an engineering shear strain.
+    pub q66: N,
+}
+
+/// A symmetric matrix with the rows and columns x, y and shear (s), in the axes of the wall.
+#[derive(Clone, Copy)]
+pub struct Sym3<N> {
+    pub xx: N,
+    pub xy: N,
+    pub yy: N,
+    pub xs: N,
+    pub ys: N,
+    pub ss: N,
+}

@@ -1,0 +1,128 @@
+//! Worked stiffnesses.
+
+ghost use Rattle.std.specs.Prelude.{◌≡◌};
+
+use crate::{Reduced, Sym3, item_stiffness, reduced, transformed};
+use lam_direction::Direction;
+use lam_number::{Enclosure, Fix};
+use lam_stock::{Item, Kind, Lamina, Name, Scale};
+use std::test::Fail;
+
+// chopped strand mat, alike in all directions of its plane
+const MAT: Lamina = Lamina {
+    e1: 10_000,
+    e2: 10_000,
+    n12: 0,
+    g12: 5_000,
+    xt: 100_000,
+    xc: 100_000,
+    yt: 100_000,
+    yc: 100_000,
+    s: 50_000,
+    f12: 0,
+    t: 5_000,
+};
+
+// the scale of a catalogue of the mat alone
+const MAT_SCALE: Scale = Scale {
+    q0: 65_536,
+    floor: 5_000,
+};
+
+// glass fibres in one direction
+const GLASS: Lamina = Lamina {
+    e1: 40_000,
+    e2: 10_000,
+    n12: 250,
+    g12: 4_000,
+    xt: 800_000,
+    xc: 500_000,
+    yt: 35_000,
+    yc: 110_000,
+    s: 50_000,
+    f12: 0,
+    t: 5_000,
+};
+
+// the scale of a catalogue of the glass alone
+const GLASS_SCALE: Scale = Scale {
+    q0: 131_072,
+    floor: 8_000,
+};
+
+// 10000/65536 and 5000/65536, over 2^60
+const TENTH: i64 = 175_921_860_444_160_000;
+
+const TWENTIETH: i64 = 87_960_930_222_080_000;
+
+// tells whether an enclosure holds a number of which the whole parts below and above are given
+fn holds(x: Fix<60>, below: i64, above: i64) -> bool {
+    x.low() <= below && above <= x.high()
+}
+
+// an item of this lamina
+fn item(name: Name, kind: Kind, lamina: Lamina, dir: Direction) -> Item
+    ensures { result.lamina ≡ lamina }
+{
+    Item {
+        name,
+        kind,
+        lamina,
+        dir,
+        cost: 1,
+    }
+}
+
+#[test]
+fn mat_has_its_moduli(rt: HostRuntime) {
+    let mat: Reduced<Fix<60>> = reduced(&MAT, &MAT_SCALE);
+    assert!(rt; holds(mat.q11, TENTH, TENTH));
+    assert!(rt; holds(mat.q22, TENTH, TENTH));
+    assert!(rt; holds(mat.q12, 0, 0));
+    assert!(rt; holds(mat.q66, TWENTIETH, TWENTIETH));
+}
+
+#[test]
+fn turned_mat_is_as_stiff(rt: HostRuntime) -> Result<(), Fail> {
+    let name = Name::read(b"mat").expect(&rt, "a name");
+    let ply = item(name, Kind::Ply, MAT, Direction::read(3, 4, 5)?);
+    let mat: Sym3<Fix<60>> = item_stiffness(&ply, &MAT_SCALE);
+    assert!(rt; holds(mat.xx, TENTH, TENTH) && holds(mat.yy, TENTH, TENTH));
+    assert!(rt; holds(mat.xy, 0, 0) && holds(mat.xs, 0, 0) && holds(mat.ys, 0, 0));
+    assert!(rt; holds(mat.ss, TWENTIETH, TWENTIETH));
+    Ok(())
+}
+
+// 24243.87, 9050.03 and 13529.09 MPa over 131072 MPa, and so on
+#[test]
+fn glass_and_its_mirror_image_couple_shear_oppositely(rt: HostRuntime) -> Result<(), Fail> {
+    let dir = Direction::read(160, 231, 281)?;
+    let glass: Reduced<Fix<60>> = reduced(&GLASS, &GLASS_SCALE);
+    let plus = transformed(&glass, &dir);
+    let minus = transformed(&glass, &dir.mirror());
+    assert!(rt; holds(plus.xx, 119_003_158_202_926_272, 119_003_158_202_926_273));
+    assert!(rt; holds(minus.xx, 119_003_158_202_926_272, 119_003_158_202_926_273));
+    assert!(rt; holds(plus.xy, 79_604_875_766_992_235, 79_604_875_766_992_236));
+    assert!(rt; holds(minus.xy, 79_604_875_766_992_235, 79_604_875_766_992_236));
+    assert!(rt; holds(plus.yy, 213_251_335_313_441_002, 213_251_335_313_441_003));
+    assert!(rt; holds(minus.yy, 213_251_335_313_441_002, 213_251_335_313_441_003));
+    assert!(rt; holds(plus.xs, 41_232_962_284_295_933, 41_232_962_284_295_934));
+    assert!(rt; holds(minus.xs, -41_232_962_284_295_934, -41_232_962_284_295_933));
+    assert!(rt; holds(plus.ys, 84_245_681_352_627_246, 84_245_681_352_627_247));
+    assert!(rt; holds(minus.ys, -84_245_681_352_627_247, -84_245_681_352_627_246));
+    assert!(rt; holds(plus.ss, 92_449_963_989_899_156, 92_449_963_989_899_157));
+    assert!(rt; holds(minus.ss, 92_449_963_989_899_156, 92_449_963_989_899_157));
+    Ok(())
+}
+
+#[test]
+fn a_pair_does_not_couple_shear(rt: HostRuntime) -> Result<(), Fail> {
+    let name = Name::read(b"glass").expect(&rt, "a name");
+    let pair = item(name, Kind::Pair, GLASS, Direction::read(160, 231, 281)?);
+    let glass: Sym3<Fix<28>> = item_stiffness(&pair, &GLASS_SCALE);
+    assert!(rt; glass.xs.low() <= 0 && 0 <= glass.xs.high());
+    assert!(rt; glass.ys.low() <= 0 && 0 <= glass.ys.high());
+    assert!(rt; glass.xx.low() <= 27_707_581 && 27_707_582 <= glass.xx.high());
+    assert!(rt; glass.yy.low() <= 49_651_445 && 49_651_446 <= glass.yy.high());
+    Ok(())
+}

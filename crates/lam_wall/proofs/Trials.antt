@@ -1,0 +1,63 @@
+-- The definitions tried on the worked wall of two plies, the outer one twice as stiff as the inner one.
+use Rattle.std.proofs.Common.{◌≡◌, refl, ℤ, pos, [], ◌∷◌}
+use Rattle.std.specs.Prelude.{neg_ℤ, List}
+use Rattle.lam_fraction.specs.Fraction.{whole, fraction, class_of, ◌+ℚ◌, ◌-ℚ◌, ◌*ℚ◌, ◌/ℚ◌, opposite, inverse, is_at_most}
+use Rattle.lam_fraction.specs.Quotient.{of_two, on_one, on_two}
+use Rattle.lam_fraction.proofs.Rationals.{antisym}
+use Rattle.lam_stock.specs.declared.item.Item.{Item}
+use Rattle.lam_stock.specs.declared.item.Kind.TheVariants.{Ply}
+use Rattle.lam_stock.specs.PlyLaw.{cosine, sine, reduced_11, reduced_12, reduced_22, reduced_66}
+use Rattle.lam_lamina.specs.Stiffness.{Symmetric}
+use Rattle.lam_job.specs.Field.{Field}
+use Rattle.lam_job.specs.Equilibrium.{force_sum, moment_sum}
+use Rattle.lam_wall.specs.Matrices.{matrices}
+
+unfoldable ply_of : ℤ → ℤ → Item
+ply_of e g = record {
+  name = [];
+  kind = Ply;
+  lamina = record { e1 = e; e2 = e; n12 = pos 0; g12 = g; xt = pos 100000; xc = pos 100000; yt = pos 100000; yc = pos 100000; s = pos 50000; f12 = pos 0; t = pos 5000 };
+  dir = record { p = pos 1; q = pos 0; h = pos 1 };
+  cost = 10;
+}
+
+unfoldable wall : List Item
+wall = ply_of (pos 10000) (pos 5000) ∷ ply_of (pos 20000) (pos 10000) ∷ []
+
+-- what the moduli of such plies are over the scale of stiffness
+unfoldable stiffness : Item → Symmetric
+stiffness i = record {
+  xx = fraction i.lamina.e1 (pos 131072);
+  xy = whole (pos 0);
+  yy = fraction i.lamina.e2 (pos 131072);
+  xs = whole (pos 0);
+  ys = whole (pos 0);
+  ss = fraction i.lamina.g12 (pos 131072);
+}
+
+extension : (matrices stiffness wall).a.yy ≡ fraction (pos 15000) (pos 131072)
+unfolding ply_of wall stiffness whole fraction class_of ◌+ℚ◌ ◌-ℚ◌ ◌*ℚ◌ ◌/ℚ◌ opposite inverse is_at_most on_one on_two of_two
+extension = antisym (record { le = refl }) (record { le = refl })
+
+coupling : (matrices stiffness wall).b.yy ≡ fraction (pos 2500) (pos 131072)
+unfolding ply_of wall stiffness whole fraction class_of ◌+ℚ◌ ◌-ℚ◌ ◌*ℚ◌ ◌/ℚ◌ opposite inverse is_at_most on_one on_two of_two
+coupling = antisym (record { le = refl }) (record { le = refl })
+
+bending : (matrices stiffness wall).d.yy ≡ fraction (pos 5000) (pos 131072)
+unfolding ply_of wall stiffness whole fraction class_of ◌+ℚ◌ ◌-ℚ◌ ◌*ℚ◌ ◌/ℚ◌ opposite inverse is_at_most on_one on_two of_two
+bending = antisym (record { le = refl }) (record { le = refl })
+
+-- Under 300000 N/m round the wall its middle strains by 24 / 11000, and it bends by -0.1 times that for each mm.
+unfoldable field : Field
+field = record {
+  strain = record { x = whole (pos 0); y = fraction (pos 24) (pos 11000); s = whole (pos 0) };
+  curvature = record { x = whole (pos 0); y = fraction (neg_ℤ (pos 24)) (pos 110000000); s = whole (pos 0) };
+}
+
+hoop_force : force_sum (λ t. t.y) field wall ≡ whole (pos 1200000)
+unfolding ply_of wall field cosine sine reduced_11 reduced_12 reduced_22 reduced_66 whole fraction class_of ◌+ℚ◌ ◌-ℚ◌ ◌*ℚ◌ ◌/ℚ◌ opposite inverse is_at_most on_one on_two of_two
+hoop_force = antisym (record { le = refl }) (record { le = refl })
+
+hoop_moment : moment_sum (λ t. t.y) field wall ≡ whole (pos 0)
+unfolding ply_of wall field cosine sine reduced_11 reduced_12 reduced_22 reduced_66 whole fraction class_of ◌+ℚ◌ ◌-ℚ◌ ◌*ℚ◌ ◌/ℚ◌ opposite inverse is_at_most on_one on_two of_two
+hoop_moment = antisym (record { le = refl }) (record { le = refl })

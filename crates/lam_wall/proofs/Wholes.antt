@@ -1,0 +1,59 @@
+-- Whole numbers and fractions as terms of the solver.
+use Rattle.std.proofs.Common.{neg_ℤ, ◌≡◌, refl, sym, ◌∙◌, ap, ap₂, ℤ, pos, ◌+ℤ◌, ◌*ℤ◌, ◌<ℤ◌, arith}
+use Rattle.std.proofs.lemmas.Int.{ints}
+use Rattle.lam_fraction.specs.WholeNumbers.{product_positive}
+use Rattle.lam_fraction.specs.Fraction.{opposite, whole, fraction, ◌+ℚ◌, ◌*ℚ◌, ◌<ℚ◌, ◌-ℚ◌, ◌/ℚ◌}
+use Rattle.lam_fraction.proofs.Expression.{minus, ◌⊕◌, ◌⊖◌, int, ◌⊗◌}
+use Rattle.lam_fraction.proofs.Solver.{◌≐◌}
+use Rattle.lam_fraction.proofs.FractionPairs.{whole-lt}
+use Rattle.lam_fraction.proofs.FractionRing.{whole-sum, whole-product}
+use Rattle.lam_fraction.proofs.Rationals.{from₁, solve}
+use Rattle.lam_fraction.proofs.FractionBounds.{fraction-times}
+
+-- ---- what is above 0
+pub positive : {d : ℤ} → pos 0 <ℤ d → whole (pos 0) <ℚ whole d
+positive {d} h = (whole-lt (pos 0) d).1 h
+
+pub twice_square : (h : ℤ) → pos 0 <ℤ h → pos 0 <ℤ (pos 2 *ℤ (h *ℤ h))
+twice_square h above = product_positive (pos 2) (h *ℤ h) (omega (arith, ints)) (product_positive h h above above)
+
+pub three_cubes : (h : ℤ) → pos 0 <ℤ h → pos 0 <ℤ (pos 3 *ℤ (h *ℤ (h *ℤ h)))
+three_cubes h above = product_positive (pos 3) (h *ℤ (h *ℤ h)) (omega (arith, ints)) (product_positive h (h *ℤ h) above (product_positive h h above above))
+
+-- ---- sums and products
+pub whole-product₃ : (a b c : ℤ) → whole (a *ℤ (b *ℤ c)) ≡ whole a *ℚ (whole b *ℚ whole c)
+whole-product₃ a b c = whole-product a (b *ℤ c) ∙ ap (λ s. whole a *ℚ s) (whole-product b c)
+
+pub whole-product₄ : (a b c d : ℤ) → whole (a *ℤ (b *ℤ (c *ℤ d))) ≡ whole a *ℚ (whole b *ℚ (whole c *ℚ whole d))
+whole-product₄ a b c d = whole-product a (b *ℤ (c *ℤ d)) ∙ ap (λ s. whole a *ℚ s) (whole-product₃ b c d)
+
+pub whole-times_sum : (t a b : ℤ) → whole (t *ℤ (a +ℤ b)) ≡ whole t *ℚ (whole a +ℚ whole b)
+whole-times_sum t a b = whole-product t (a +ℤ b) ∙ ap (λ s. whole t *ℚ s) (whole-sum a b)
+
+-- the sum of the squares and the product
+pub whole-squares : (a b : ℤ) → whole (a *ℤ a +ℤ a *ℤ b +ℤ b *ℤ b) ≡ whole a *ℚ whole a +ℚ whole a *ℚ whole b +ℚ whole b *ℚ whole b
+whole-squares a b =
+    whole-sum (a *ℤ a +ℤ a *ℤ b) (b *ℤ b)
+    ∙ ap₂ ◌+ℚ◌ (whole-sum (a *ℤ a) (a *ℤ b) ∙ ap₂ ◌+ℚ◌ (whole-product a a) (whole-product a b)) (whole-product b b)
+
+pub whole-times_squares : (t a b : ℤ) → whole (t *ℤ (a *ℤ a +ℤ a *ℤ b +ℤ b *ℤ b))
+    ≡ whole t *ℚ (whole a *ℚ whole a +ℚ whole a *ℚ whole b +ℚ whole b *ℚ whole b)
+whole-times_squares t a b = whole-product t (a *ℤ a +ℤ a *ℤ b +ℤ b *ℤ b) ∙ ap (λ s. whole t *ℚ s) (whole-squares a b)
+
+pub whole-twice_and_one : (a b : ℤ) → whole (pos 2 *ℤ a +ℤ b) ≡ whole (pos 2) *ℚ whole a +ℚ whole b
+whole-twice_and_one a b = whole-sum (pos 2 *ℤ a) b ∙ ap (λ s. s +ℚ whole b) (whole-product (pos 2) a)
+
+pub whole-one_and_twice : (a b : ℤ) → whole (a +ℤ pos 2 *ℤ b) ≡ whole a +ℚ whole (pos 2) *ℚ whole b
+whole-one_and_twice a b = whole-sum a (pos 2 *ℤ b) ∙ ap (λ s. whole a +ℚ s) (whole-product (pos 2) b)
+
+-- a whole number is twice its half
+pub twice_half : (z : ℤ) → whole z ≡ whole (pos 2) *ℚ fraction z (pos 2)
+unfolding ◌-ℚ◌ ◌/ℚ◌
+twice_half z = sym (fraction-times z (pos 2) (omega (arith, ints))) ∙ solve 1 (λ f. f ⊗ int (pos 2) ≐ int (pos 2) ⊗ f) refl (fraction z (pos 2))
+
+-- ---- opposites
+pub whole-opposite : (n : ℤ) → whole (neg_ℤ n) ≡ opposite (whole n)
+unfolding ◌-ℚ◌ ◌/ℚ◌
+whole-opposite n =
+    let e : whole (neg_ℤ n) +ℚ whole n ≡ whole (pos 0) = sym (whole-sum (neg_ℤ n) n) ∙ ap whole (omega (arith, ints)) in
+    from₁ (whole (pos 1)) e (solve 2 (λ m n. m ≐ minus n ⊕ int (pos 1) ⊗ (m ⊕ n ⊖ int (pos 0))) refl (whole (neg_ℤ n)) (whole n))

@@ -1,0 +1,4 @@
+pub mod Matrices
+pub mod MatrixLaw
+pub mod Energy
+pub mod Form

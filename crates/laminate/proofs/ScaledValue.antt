@@ -1,0 +1,182 @@
+-- The value of the scaled criterion is that of the criterion, less 1, over 4096.
+use Rattle.std.proofs.Common.{◌≡◌, refl, sym, ◌∙◌, ap, ap₂, [], ◌∷◌, ℕ, ◌^◌, ℤ, pos, ◌*ℤ◌, ◌-ℤ◌, ◌≤ℤ◌, ◌<ℤ◌, arith}
+use Rattle.std.specs.Int.{int_min, int_max}
+use Rattle.std.proofs.lemmas.Int.{ints, clamps}
+use Rattle.lam_fraction.specs.Fraction.{ℚ, whole, fraction, ◌+ℚ◌, ◌-ℚ◌, ◌*ℚ◌, ◌/ℚ◌, inverse, opposite, ◌<ℚ◌}
+use Rattle.lam_fraction.specs.WholeNumbers.{product_positive}
+use Rattle.lam_fraction.proofs.FractionPairs.{whole-le, whole-lt}
+use Rattle.lam_fraction.proofs.FractionRing.{whole-product, whole-sum}
+use Rattle.lam_fraction.proofs.Rationals.{quotes, by_ring, from₁, decide, inverse_positive, ◌*ₚ◌}
+use Rattle.lam_stock.specs.declared.item.Lamina.{Lamina}
+use Rattle.lam_stock.specs.TsaiWu.{criterion, tsai_wu}
+use Rattle.laminate.specs.declared.ply_stress.PlyStress.{PlyStress}
+use Rattle.laminate.specs.StrengthRatio.{PositiveStrengths, ply_stress_of}
+use Rattle.laminate.specs.ScaledCriterion.{linear_coefficient, quadratic_coefficient, mixed_coefficient, scaled_stress, terms_of, scaled_of, axis_value, scaled_value}
+use Rattle.laminate.proofs.CriterionTerms.{one_over, inverse-product, linear_term, linear_term_turned, square_term, cross_term, shear_term}
+
+abbrev pub sixteenth : ℚ
+sixteenth = inverse (whole (pos 16))
+
+-- 1/4096
+abbrev pub unit_value : ℚ
+unit_value = sixteenth *ℚ sixteenth *ℚ sixteenth
+
+pub unit_positive : whole (pos 0) <ℚ unit_value
+unit_positive =
+    let p = inverse_positive ((whole-lt (pos 0) (pos 16)).1 (omega (arith, ints))) in
+    (p *ₚ p) *ₚ p
+
+inverse_256 : inverse (whole (pos 256)) ≡ sixteenth *ℚ sixteenth
+inverse_256 = inverse-product (pos 16) (pos 16) (omega (arith, ints)) (omega (arith, ints)) (omega (arith, ints))
+
+inverse_4096 : inverse (whole (pos 4096)) ≡ unit_value
+inverse_4096 =
+    inverse-product (pos 256) (pos 16) (omega (arith, ints)) (omega (arith, ints)) (omega (arith, ints))
+    ∙ ap (λ z. z *ℚ sixteenth) inverse_256
+
+-- a numerator over a product
+over_product : (n k m : ℤ) → pos 0 <ℤ k → pos 0 <ℤ m → fraction n (k *ℤ m) ≡ whole n *ℚ (inverse (whole k) *ℚ inverse (whole m))
+unfolding fraction ◌/ℚ◌
+over_product n k m p q = ap (λ z. whole n *ℚ z) (inverse-product k m p q (product_positive k m p q))
+
+whole-difference : (m n : ℤ) → whole (m -ℤ n) ≡ whole m -ℚ whole n
+whole-difference m n =
+    from₁ (whole (pos 1)) (sym (whole-sum (m -ℤ n) n) ∙ ap whole (omega (arith, ints))) (rest (whole (m -ℤ n)) (whole m) (whole n))
+  where
+    rest : (x a b : ℚ) → x ≡ (a -ℚ b) +ℚ whole (pos 1) *ℚ ((x +ℚ b) -ℚ a)
+    rest x a b = by_ring (x ∷ a ∷ b ∷ []) (search quotes depth 20) refl
+
+linear_form : (t c m : ℤ) → pos 0 <ℤ m → fraction (c -ℤ t) (pos 256 *ℤ m) ≡ (whole c -ℚ whole t) *ℚ ((sixteenth *ℚ sixteenth) *ℚ inverse (whole m))
+linear_form t c m p =
+    over_product (c -ℤ t) (pos 256) m (omega (arith, ints)) p
+    ∙ ap₂ ◌*ℚ◌ (whole-difference c t) (ap (λ z. z *ℚ inverse (whole m)) inverse_256)
+
+quadratic_form : (x m : ℤ) → pos 0 <ℤ m → fraction x (pos 16 *ℤ m) ≡ whole x *ℚ (sixteenth *ℚ inverse (whole m))
+quadratic_form x m p = over_product x (pos 16) m (omega (arith, ints)) p
+
+turned : (s r io ix d : ℚ) → (s *ℚ r) *ℚ (d *ℚ (io *ℚ ix)) ≡ ((s *ℚ io) *ℚ r) *ℚ (d *ℚ ix)
+turned s r io ix d = by_ring (s ∷ r ∷ io ∷ ix ∷ d ∷ []) (search quotes depth 30) refl
+
+-- a stress in kPa, over 16 times a strength
+scaled_form : (s o : ℤ) (r : ℕ) (x : ℤ) → pos 0 <ℤ o → pos 0 <ℤ x → scaled_stress s o r x ≡ (fraction s o *ℚ whole (pos r)) *ℚ (sixteenth *ℚ inverse (whole x))
+unfolding scaled_stress fraction ◌/ℚ◌
+scaled_form s o r x p q =
+    ap₂ ◌*ℚ◌ (whole-product s (pos r)) (inverse-product (pos 16) (o *ℤ x) (omega (arith, ints)) (product_positive o x p q) (product_positive (pos 16) (o *ℤ x) (omega (arith, ints)) (product_positive o x p q))
+    ∙ ap (λ z. sixteenth *ℚ z) (inverse-product o x p q (product_positive o x p q)))
+    ∙ turned (whole s) (whole (pos r)) (inverse (whole o)) (inverse (whole x)) sixteenth
+
+-- ---- the terms of an axis
+axis_sum : (d a b p : ℚ) → a ≡ d *ℚ b → (q : ℚ) (e : ℚ) → e ≡ d *ℚ q → p ≡ q → a +ℚ e ≡ d *ℚ (b +ℚ p)
+axis_sum d a b p h q e k g =
+    ap₂ ◌+ℚ◌ h (k ∙ ap (λ z. d *ℚ z) (sym g)) ∙ by_ring (d ∷ b ∷ p ∷ []) (search quotes depth 30) refl
+
+lesser_first : (t c : ℤ) (u : ℚ) → pos 0 <ℤ t → pos 0 <ℤ c → t ≤ℤ c
+    → axis_value (linear_coefficient t c) (quadratic_coefficient t c) (u *ℚ (sixteenth *ℚ inverse (whole (int_max t c))))
+    ≡ unit_value *ℚ ((u /ℚ whole t -ℚ u /ℚ whole c) +ℚ (u *ℚ u) /ℚ whole (t *ℤ c))
+unfolding axis_value linear_coefficient quadratic_coefficient ◌/ℚ◌
+lesser_first t c u p q h =
+    let least : int_min t c ≡ t = omega (arith, ints, clamps, h) in
+    let most : int_max t c ≡ c = omega (arith, ints, clamps, h) in
+    rw (least, most) (rw (linear_form t c t p, quadratic_form c t p) (
+    axis_sum _ _ _ _ (linear_term (whole t) (whole c) (inverse (whole t)) (inverse (whole c)) sixteenth u (one_over t p) (one_over c q))
+    _ _ (square_term (whole c) (inverse (whole c)) (inverse (whole t)) sixteenth u (one_over c q))
+    (ap (λ z. (u *ℚ u) *ℚ z) (inverse-product t c p q (product_positive t c p q) ∙ swapped (inverse (whole t)) (inverse (whole c))))))
+  where
+    swapped : (a b : ℚ) → a *ℚ b ≡ b *ℚ a
+    swapped a b = by_ring (a ∷ b ∷ []) (search quotes depth 20) refl
+
+greater_first : (t c : ℤ) (u : ℚ) → pos 0 <ℤ t → pos 0 <ℤ c → c ≤ℤ t
+    → axis_value (linear_coefficient t c) (quadratic_coefficient t c) (u *ℚ (sixteenth *ℚ inverse (whole (int_max t c))))
+    ≡ unit_value *ℚ ((u /ℚ whole t -ℚ u /ℚ whole c) +ℚ (u *ℚ u) /ℚ whole (t *ℤ c))
+unfolding axis_value linear_coefficient quadratic_coefficient ◌/ℚ◌
+greater_first t c u p q h =
+    let least : int_min t c ≡ c = omega (arith, ints, clamps, h) in
+    let most : int_max t c ≡ t = omega (arith, ints, clamps, h) in
+    rw (least, most) (rw (linear_form t c c q, quadratic_form t c q) (
+    axis_sum _ _ _ _ (linear_term_turned (whole t) (whole c) (inverse (whole t)) (inverse (whole c)) sixteenth u (one_over t p) (one_over c q))
+    _ _ (square_term (whole t) (inverse (whole t)) (inverse (whole c)) sixteenth u (one_over t p))
+    (ap (λ z. (u *ℚ u) *ℚ z) (inverse-product t c p q (product_positive t c p q)))))
+
+pub axis_is : (t c : ℤ) (u : ℚ) → pos 0 <ℤ t → pos 0 <ℤ c
+    → axis_value (linear_coefficient t c) (quadratic_coefficient t c) (u *ℚ (sixteenth *ℚ inverse (whole (int_max t c))))
+    ≡ unit_value *ℚ ((u /ℚ whole t -ℚ u /ℚ whole c) +ℚ (u *ℚ u) /ℚ whole (t *ℤ c))
+axis_is t c u p q =
+    decide (whole t) (whole c)
+    (λ h. lesser_first t c u p q ((whole-le t c).0 h))
+    (λ h. greater_first t c u p q (let k = (whole-lt c t).0 h in omega (arith, ints, k)))
+
+-- ---- the terms of both axes, and the shear
+-- 1 over 8 million billions, by 2/16 and one over 10 ^ 18
+eighth : inverse (whole (pos 8)) ≡ whole (pos 2) *ℚ sixteenth
+eighth =
+    let e : inverse (whole (pos 16)) ≡ inverse (whole (pos 2)) *ℚ inverse (whole (pos 8)) = inverse-product (pos 2) (pos 8) (omega (arith, ints)) (omega (arith, ints)) (omega (arith, ints)) in
+    rw e (halves (inverse (whole (pos 2))) (inverse (whole (pos 8))) (one_over (pos 2) (omega (arith, ints))))
+  where
+    halves : (a b : ℚ) → whole (pos 2) *ℚ a ≡ whole (pos 1) → b ≡ whole (pos 2) *ℚ (a *ℚ b)
+    halves a b h = from₁ (opposite b) h (by_ring (a ∷ b ∷ []) (search quotes depth 20) refl)
+
+mixed_form : (f x y : ℤ) → fraction (f *ℤ (x *ℤ y)) (pos 8000000000000000000) ≡ sixteenth *ℚ ((whole (pos 2 *ℤ f) *ℚ inverse (whole (pos (10 ^ 18)))) *ℚ (whole x *ℚ whole y))
+mixed_form f x y =
+    over_product (f *ℤ (x *ℤ y)) (pos 8) (pos (10 ^ 18)) (omega (arith, ints)) (omega (arith, ints))
+    ∙ ap₂ ◌*ℚ◌ (whole-product f (x *ℤ y) ∙ ap (λ z. whole f *ℚ z) (whole-product x y)) (ap (λ z. z *ℚ inverse (whole (pos (10 ^ 18)))) eighth)
+    ∙ moved (whole f) (whole x) (whole y) sixteenth (inverse (whole (pos (10 ^ 18)))) (whole (pos 2 *ℤ f)) (whole-product (pos 2) f)
+  where
+    moved : (f x y d i g : ℚ) → g ≡ whole (pos 2) *ℚ f → (f *ℚ (x *ℚ y)) *ℚ ((whole (pos 2) *ℚ d) *ℚ i) ≡ d *ℚ ((g *ℚ i) *ℚ (x *ℚ y))
+    moved f x y d i g e = from₁ (opposite (d *ℚ i *ℚ (x *ℚ y))) e (by_ring (f ∷ x ∷ y ∷ d ∷ i ∷ g ∷ []) (search quotes depth 40 fits 9000) refl)
+
+-- the sums of the scaled terms
+gathered : (d a b c e a' b' c' e' : ℚ) → a ≡ d *ℚ a' → b ≡ d *ℚ b' → c ≡ d *ℚ c' → e ≡ d *ℚ e' → (a +ℚ b +ℚ (c +ℚ e)) -ℚ d ≡ d *ℚ ((a' +ℚ b' +ℚ (c' +ℚ e')) -ℚ whole (pos 1))
+gathered d a b c e a' b' c' e' p q r s =
+    ap (λ z. z -ℚ d) (ap₂ ◌+ℚ◌ (ap₂ ◌+ℚ◌ p q) (ap₂ ◌+ℚ◌ r s))
+    ∙ by_ring (d ∷ a' ∷ b' ∷ c' ∷ e' ∷ []) (search quotes depth 30) refl
+
+rearranged : (p q r s t g v i : ℚ) → ((p +ℚ r) +ℚ (q +ℚ s)) +ℚ ((g *ℚ i) *ℚ v +ℚ t) ≡ p +ℚ q +ℚ r +ℚ s +ℚ t +ℚ (g *ℚ v) *ℚ i
+rearranged p q r s t g v i = by_ring (p ∷ q ∷ r ∷ s ∷ t ∷ g ∷ v ∷ i ∷ []) (search quotes depth 40 fits 9000) refl
+
+one_part : fraction (pos 1) (pos 4096) ≡ unit_value
+unfolding fraction ◌/ℚ◌
+one_part = ap (λ z. whole (pos 1) *ℚ z) inverse_4096 ∙ once unit_value
+  where
+    once : (x : ℚ) → whole (pos 1) *ℚ x ≡ x
+    once x = by_ring (x ∷ []) (search quotes depth 20) refl
+
+shear_part : (u : ℚ) (s : ℤ) → pos 0 <ℤ s
+    → fraction (pos 1) (pos 16) *ℚ ((u *ℚ (sixteenth *ℚ inverse (whole s))) *ℚ (u *ℚ (sixteenth *ℚ inverse (whole s)))) ≡ unit_value *ℚ ((u *ℚ u) /ℚ whole (s *ℤ s))
+unfolding fraction ◌/ℚ◌
+shear_part u s p =
+    ap (λ z. z *ℚ ((u *ℚ (sixteenth *ℚ inverse (whole s))) *ℚ (u *ℚ (sixteenth *ℚ inverse (whole s))))) (once sixteenth)
+    ∙ shear_term (inverse (whole s)) sixteenth u
+    ∙ ap (λ z. unit_value *ℚ ((u *ℚ u) *ℚ z)) (sym (inverse-product s s p p (product_positive s s p p)))
+  where
+    once : (x : ℚ) → whole (pos 1) *ℚ x ≡ x
+    once x = by_ring (x ∷ []) (search quotes depth 20) refl
+
+greater_positive : (t c : ℤ) → pos 0 <ℤ t → pos 0 <ℤ int_max t c
+greater_positive t c p = omega (arith, ints, clamps, p)
+
+mixed_part : (l : Lamina) (u v : ℚ) → PositiveStrengths l
+    → mixed_coefficient l *ℚ ((u *ℚ (sixteenth *ℚ inverse (whole (int_max l.xt l.xc)))) *ℚ (v *ℚ (sixteenth *ℚ inverse (whole (int_max l.yt l.yc)))))
+    ≡ unit_value *ℚ ((whole (pos 2 *ℤ l.f12) *ℚ inverse (whole (pos (10 ^ 18)))) *ℚ (u *ℚ v))
+unfolding mixed_coefficient
+mixed_part l u v h =
+    let x = int_max l.xt l.xc in
+    let y = int_max l.yt l.yc in
+    ap (λ z. z *ℚ ((u *ℚ (sixteenth *ℚ inverse (whole x))) *ℚ (v *ℚ (sixteenth *ℚ inverse (whole y))))) (mixed_form l.f12 x y)
+    ∙ cross_term (whole x) (whole y) (inverse (whole x)) (inverse (whole y)) sixteenth u v (whole (pos 2 *ℤ l.f12) *ℚ inverse (whole (pos (10 ^ 18))))
+    (one_over x (greater_positive l.xt l.xc h.xt)) (one_over y (greater_positive l.yt l.yc h.yt))
+
+pub scaled-value : (l : Lamina) (s : PlyStress) (r : ℕ) → PositiveStrengths l
+    → scaled_value (terms_of l) (scaled_of l s r) ≡ unit_value *ℚ (tsai_wu l (ply_stress_of s) (whole (pos r)) -ℚ whole (pos 1))
+unfolding scaled_value criterion ◌/ℚ◌
+scaled-value l s r h =
+    let u = fraction s.along s.over *ℚ whole (pos r) in
+    let v = fraction s.across s.over *ℚ whole (pos r) in
+    let w = fraction s.shear s.over *ℚ whole (pos r) in
+    let x = int_max l.xt l.xc in
+    let y = int_max l.yt l.yc in
+    let along = scaled_form s.along s.over r x s.positive (greater_positive l.xt l.xc h.xt) in
+    let across = scaled_form s.across s.over r y s.positive (greater_positive l.yt l.yc h.yt) in
+    let shear = scaled_form s.shear s.over r l.s s.positive h.s in
+    rw (along, across, shear, one_part) (
+    gathered unit_value _ _ _ _ _ _ _ _ (axis_is l.xt l.xc u h.xt h.xc) (axis_is l.yt l.yc v h.yt h.yc) (mixed_part l u v h) (shear_part w l.s h.s)
+    ∙ ap (λ z. unit_value *ℚ (z -ℚ whole (pos 1))) (rearranged _ _ _ _ _ (whole (pos 2 *ℤ l.f12)) (u *ℚ v) (inverse (whole (pos (10 ^ 18))))))
