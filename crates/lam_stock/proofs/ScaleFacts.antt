@@ -86,10 +86,10 @@ size-of (pos n) h = refl
 size-of (negsuc n) h = absurd (omega (arith, ints))
 
 stiffness-greatest : (i : Item) → WithinLimits i → stiffness i.lamina ≤ℤ pos 1600000
-stiffness-greatest i w = let m = w.range.moduli in omega (arith, ints, clamps, m.greatest_e1, m.greatest_e2, m.greatest_g12)
+stiffness-greatest i w = let m = w.limits.range.moduli in omega (arith, ints, clamps, m.greatest_e1, m.greatest_e2, m.greatest_g12)
 
 stiffness-least : (i : Item) → WithinLimits i → pos 4000 ≤ℤ stiffness i.lamina
-stiffness-least i w = let m = w.range.moduli in omega (arith, ints, clamps, m.least_e1, m.least_e2)
+stiffness-least i w = let m = w.limits.range.moduli in omega (arith, ints, clamps, m.least_e1, m.least_e2)
 
 reached_by : (a b c : ℤ) → a ≤ℤ b → b ≤ℤ c → a ≤ℤ c
 reached_by a b c low high = omega (arith, ints)
@@ -98,7 +98,7 @@ power_within : (q : ℤ) (power : ℕ) → q ≡ pos power → power ≤ 2097152
 power_within q power is few = omega (arith, ints)
 
 softness-greatest : (i : Item) → WithinLimits i → softness i.lamina ≤ℤ pos 400000
-softness-greatest i w = let m = w.range.moduli in omega (arith, ints, clamps, m.greatest_g12)
+softness-greatest i w = let m = w.limits.range.moduli in omega (arith, ints, clamps, m.greatest_g12)
 
 covered : (x top : ℤ) (size power whole : ℕ) → x ≤ℤ top → pos size ≡ top → power ≡ whole → size ≤ whole → x ≤ℤ pos power
 covered x top size power whole le is_size is_whole enough = omega (arith, ints, le, is_size)

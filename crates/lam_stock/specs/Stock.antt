@@ -1,13 +1,15 @@
 -- What a catalogue keeps.
 use Rattle.std.specs.Prelude.{◌≡◌, ◌≤◌, List, length, pos, ◌≤ℤ◌, ◌*ℤ◌, All}
+use Rattle.lam_direction.specs.Circle.{IsDirection}
 use Rattle.lam_stock.specs.declared.item.Item.{Item}
 use Rattle.lam_stock.specs.declared.scale.Scale.{Scale}
 use Rattle.lam_stock.specs.Limits.{KeepsLimits}
 use Rattle.lam_stock.specs.Scale.{scale_of}
 
--- an item keeps every limit
-abbrev pub WithinLimits : Item → Type 0
-WithinLimits i = KeepsLimits i.lamina (pos i.cost)
+-- an item keeps every limit: its numbers, and its direction
+pub record WithinLimits (i : Item) : Type 0 where
+  pub limits : KeepsLimits i.lamina (pos i.cost)
+  pub direction : IsDirection i.dir
 
 -- 1 to 64 items within their limits, the stiffest of which is not too stiff for the softest
 pub record IsStock (items : List Item) (scale : Scale) : Type 0 where

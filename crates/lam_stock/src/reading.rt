@@ -2,6 +2,7 @@
 
 ghost use Rattle.std.specs.Prelude.{◌≡◌, ◌<◌, ◌≤◌, ◌↔◌, ◌++◌, ◌∷◌, [], length, drop, All, IfOk, OnOk, IfErr, IsTrue};
 ghost use Rattle.std.specs.List.{list_any};
+ghost use Rattle.lam_direction.specs.Circle.{IsDirection};
 ghost use Rattle.lam_direction.specs.Reading.{direction_of as spec_direction_of};
 ghost use Rattle.lam_stock.specs.Catalogue as spec;
 ghost use Rattle.lam_stock.specs.Catalogue.{Gives, columns_of, ended, item_of, items_of, stock_of};
@@ -206,7 +207,8 @@ fn lamina_of(numbers: &[i64; 15]) -> Lamina
 
 // reads a direction
 fn direction_of(p: &i64, q: &i64, h: &i64) -> Result<Direction, DirectionFault>
-    ensures { result ≡ spec_direction_of p.now q.now h.now }
+    ensures reads { result ≡ spec_direction_of p.now q.now h.now }
+    ensures direction { IfOk result (λ d. IsDirection d) }
 {
     Direction::read(*p, *q, *h)
 }

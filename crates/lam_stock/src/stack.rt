@@ -37,6 +37,16 @@ impl Stack {
         }
     }
 
+    /// The same list once more.
+    pub fn copied(&self) -> Stack
+        ensures { result ≡ self.now }
+    {
+        match SmallVec::from_slice(*self.items.allocator(), self.items.as_slice()) {
+            Ok(items) => Stack { items },
+            Err(_) => unreachable!(),
+        }
+    }
+
     /// Puts an item at the end.
     pub fn push(&mut self, item: ItemNo)
         requires { length self.old < 64 }

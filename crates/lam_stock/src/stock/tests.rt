@@ -41,8 +41,10 @@ fn a_stack_gives_back_the_last_item(rt: HostRuntime) {
     stack.push(ItemNo(7));
     stack.push(ItemNo(3));
     assert_eq!(rt; stack.items(), [ItemNo(7), ItemNo(3)].as_slice());
+    let copy = stack.copied();
     assert_eq!(rt;
         (stack.pop(), stack.pop(), stack.pop()),
         (Some(ItemNo(3)), Some(ItemNo(7)), None)
     );
+    assert_eq!(rt; copy.items(), [ItemNo(7), ItemNo(3)].as_slice());
 }
