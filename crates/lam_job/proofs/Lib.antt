@@ -2,8 +2,11 @@ pub mod LoadFits
 pub mod Worked
 pub mod LoadTrials
 pub mod FieldTrials
+pub mod EveryWave
 pub mod PlateTrials
 pub mod RuleTrials
 pub mod PartialTrials
+pub mod OnePly
 pub mod NearTrials
+pub mod HangTrials
 pub mod DesignTrials

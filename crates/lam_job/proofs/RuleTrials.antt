@@ -41,7 +41,7 @@ pub lean_is_slanted : IsSlanted lean
 lean_is_slanted =
     (refl, λ on. elim on [ inl e ↦ (let d : ◌≡◌ {A = ℕ} 3 0 = ap unsigned_abs e in omega arith) | inr e ↦ (let d : ◌≡◌ {A = ℕ} 4 0 = ap unsigned_abs e in omega arith) ])
 
-mat_is_straight : ¬ IsSlanted mat
+pub mat_is_straight : ¬ IsSlanted mat
 mat_is_straight s = s.1 (inr refl)
 
 pair_is_straight : ¬ IsSlanted pair

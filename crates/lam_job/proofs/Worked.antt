@@ -15,7 +15,7 @@ use Rattle.lam_job.specs.declared.panel.Panel.{Panel}
 use Rattle.lam_job.specs.declared.rules.ItemSet.{ItemSet}
 use Rattle.lam_job.specs.declared.rules.RuleSet.{RuleSet}
 use Rattle.lam_job.specs.declared.job.Job.{Job}
-use Rattle.lam_job.specs.Ranges.{IsPlyNumber, IsRuleThickness}
+use Rattle.lam_job.specs.Ranges.{IsForce, IsFactor, IsPlyNumber, IsRuleThickness}
 
 -- the same moduli and strengths along and across, no Poisson number, 5 mm thick
 abbrev pub even_lamina : (e g : ℤ) → Lamina
@@ -45,6 +45,9 @@ pair = item Pair (even_lamina (pos 10000) (pos 5000)) (direction (pos 3) (pos 4)
 
 abbrev pub catalogue : List Item
 catalogue = mat ∷ lean ∷ lean_back ∷ pair ∷ stiff ∷ []
+
+abbrev pub two_mats : List Item
+two_mats = mat ∷ mat ∷ []
 
 abbrev pub number : ℕ → ItemNo
 number n = record { 0 = n }
@@ -83,14 +86,14 @@ long = record {
   factor_in_range = record { least = record { le = tt }; greatest = record { le = tt } };
 }
 
--- 90000 N/m round the wall, at a factor of 5
-abbrev pub hoop_case : Case
-hoop_case = record {
-  kind = Resultants (pos 0) (pos 90000) (pos 0) (pos 0) (pos 0) (pos 0);
-  factor = pos 5000;
+-- a force in N/m round the wall, at a factor
+abbrev pub hoop_case_of : (force factor : ℤ) → IsForce force → IsFactor factor → Case
+hoop_case_of force factor force_in_range factor_in_range = record {
+  kind = Resultants (pos 0) force (pos 0) (pos 0) (pos 0) (pos 0);
+  factor = factor;
   kind_in_range = record {
     force_x_in_range = record { least = record { le = tt }; greatest = record { le = tt } };
-    force_y_in_range = record { least = record { le = tt }; greatest = record { le = tt } };
+    force_y_in_range = force_in_range;
     force_xy_in_range = record { least = record { le = tt }; greatest = record { le = tt } };
     moment_x_in_range = record { least = record { le = tt }; greatest = record { le = tt } };
     moment_y_in_range = record { least = record { le = tt }; greatest = record { le = tt } };
@@ -98,8 +101,28 @@ hoop_case = record {
     pressure_in_range = record { least = record { le = tt }; greatest = record { le = tt } };
     diameter_in_range = record { least = record { le = tt }; greatest = record { le = tt } };
   };
-  factor_in_range = record { least = record { le = tt }; greatest = record { le = tt } };
+  factor_in_range = factor_in_range;
 }
+
+-- 90000 N/m round the wall, at a factor of 5
+abbrev pub hoop_case : Case
+hoop_case =
+    hoop_case_of (pos 90000) (pos 5000) (record { least = record { le = tt }; greatest = record { le = tt } }) (record { least = record { le = tt }; greatest = record { le = tt } })
+
+-- the same at a factor of 6
+abbrev pub hoop_case_at_6 : Case
+hoop_case_at_6 =
+    hoop_case_of (pos 90000) (pos 6000) (record { least = record { le = tt }; greatest = record { le = tt } }) (record { least = record { le = tt }; greatest = record { le = tt } })
+
+-- 100000 N/m, at a factor of 5
+abbrev pub tied_case : Case
+tied_case =
+    hoop_case_of (pos 100000) (pos 5000) (record { least = record { le = tt }; greatest = record { le = tt } }) (record { least = record { le = tt }; greatest = record { le = tt } })
+
+-- 120000 N/m, at a factor of 5
+abbrev pub heavy_case : Case
+heavy_case =
+    hoop_case_of (pos 120000) (pos 5000) (record { least = record { le = tt }; greatest = record { le = tt } }) (record { least = record { le = tt }; greatest = record { le = tt } })
 
 pub not_asked : {T : Type 0} (P : T → Type 0) → ForSome None P
 not_asked P x e = cc
@@ -159,3 +182,14 @@ job_of liner short in_wall rules panels few = record {
   few_cases = lit≤ tt;
   few_panels = few;
 }
+
+-- a job of some cases without a rule, a liner or a panel, where a schedule may list so many plies
+abbrev pub plain_job : (limit : ℕ) → IsPlyNumber limit → (cases : List Case) → 1 ≤ length cases → length cases ≤ 16 → Job
+plain_job limit known cases some few =
+    record (job_of [] (lit≤ tt) false no_rules [] (lit≤ tt)) { limit = limit; cases = cases; limit_in_range = known; some_case = some; few_cases = few }
+
+abbrev pub up_to_1 : IsPlyNumber 1
+up_to_1 = record { least = lit≤ tt; greatest = lit≤ tt }
+
+abbrev pub up_to_9 : IsPlyNumber 9
+up_to_9 = record { least = lit≤ tt; greatest = lit≤ tt }
