@@ -1,9 +1,8 @@
 -- How large the numbers of a lamina on a scale are, and that they fit.
-use Rattle.std.proofs.Common.{◌≡◌, ◌≢◌, refl, sym, ◌∙◌, ap, ap₂, subst, subst₂, ℕ, ◌*◌, ◌≤◌, ℤ, pos, ◌+ℤ◌, ◌-ℤ◌, ◌*ℤ◌, ◌≤ℤ◌, ◌<ℤ◌, arith}
+use Rattle.std.proofs.Common.{◌≡◌, refl, sym, ◌∙◌, ap, subst, ℕ, ◌≤◌, ℤ, pos, ◌*ℤ◌, ◌<ℤ◌, arith}
 use Rattle.std.specs.Prelude.{unsigned_abs}
-use Rattle.std.specs.Int.{int_max}
 use Rattle.std.proofs.lemmas.Int.{ints, clamps}
-use Rattle.lam_fraction.specs.Fraction.{ℚ, whole, ◌+ℚ◌, ◌-ℚ◌, ◌*ℚ◌, ◌/ℚ◌, opposite, inverse, fraction, ◌≤ℚ◌, ◌<ℚ◌}
+use Rattle.lam_fraction.specs.Fraction.{ℚ, whole, ◌-ℚ◌, ◌*ℚ◌, ◌/ℚ◌, opposite, inverse, fraction, ◌≤ℚ◌, ◌<ℚ◌}
 use Rattle.lam_fraction.proofs.FractionPairs.{whole-le, whole-lt}
 use Rattle.lam_fraction.proofs.FractionRing.{whole-product}
 use Rattle.lam_fraction.proofs.Expression.{int, ◌⊕◌, ◌⊖◌, ◌⊗◌, minus}
@@ -11,17 +10,14 @@ use Rattle.lam_fraction.proofs.Solver.{◌≐◌}
 use Rattle.lam_fraction.proofs.Integers as Z
 use Rattle.lam_fraction.proofs.Rationals.{solve, from₁, transitive, above, weaken, at_most, at_most_over, number, positive_number, inverse_positive, not_zero, same_without_factor, ◌+ₙ◌, ◌*ₙ◌}
 use Rattle.lam_fraction.proofs.FractionBounds.{times-inverse, quotient_at_most, at_most_quotient, quotient_only, fraction-times}
-use Rattle.lam_number.specs.Encloses.{Encloses}
-use Rattle.lam_number.specs.Ends.{width}
-use Rattle.lam_stock.specs.Moduli.{stiffness}
 use Rattle.lam_stock.specs.declared.item.Lamina.{Lamina}
-use Rattle.lam_stock.specs.PlyLaw.{poisson_rest, reduced_11, reduced_12, reduced_22, reduced_66}
+use Rattle.lam_stock.specs.PlyLaw.{reduced_11, reduced_12, reduced_22, reduced_66}
 use Rattle.lam_lamina.specs.Covered.{IsCovered}
 use Rattle.lam_lamina.specs.Held.{HoldsModuli, NarrowModuli}
-use Rattle.lam_lamina.specs.Known.{Known, KnownModuli}
-use Rattle.lam_lamina.specs.Stiffness.{Moduli, moduli_over}
+use Rattle.lam_lamina.specs.Known.{KnownModuli}
+use Rattle.lam_lamina.specs.Stiffness.{moduli_over}
 use Rattle.lam_lamina.specs.declared.stiffness.Reduced.{Reduced}
-use Rattle.lam_lamina.proofs.Moduli.{IsElastic, Spans, poisson_rest_positive, along_stiff, across_stiff, trace_at_most, shear_at_most, coupled_not_negative, coupled_at_most}
+use Rattle.lam_lamina.proofs.Moduli.{IsElastic, Spans, along_stiff, across_stiff, trace_at_most, shear_at_most, coupled_not_negative, coupled_at_most}
 use Rattle.lam_lamina.proofs.Steps.{Quarters}
 
 -- ---- what a scale that covers a lamina says of it

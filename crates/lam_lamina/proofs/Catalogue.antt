@@ -1,5 +1,5 @@
 -- The items of a catalogue are on its scale.
-use Rattle.std.proofs.Common.{◌≡◌, refl, ℕ, ◌*◌, ◌/◌, ◌^◌, ◌<◌, ◌≤◌, ℤ, pos, negsuc, ◌+ℤ◌, ◌*ℤ◌, ◌≤ℤ◌, ◌<ℤ◌, List, arith}
+use Rattle.std.proofs.Common.{refl, ◌^◌, ℤ, pos, negsuc, ◌+ℤ◌, ◌*ℤ◌, ◌≤ℤ◌, ◌<ℤ◌, List, arith}
 use Rattle.std.specs.Prelude.{All, int_div}
 use Rattle.std.proofs.lemmas.Int.{ints, clamps}
 use Rattle.lam_fraction.proofs.Expression.{◌⊕◌, ◌⊖◌, ◌⊗◌}
@@ -13,6 +13,9 @@ use Rattle.lam_stock.specs.declared.item.Item.{Item}
 use Rattle.lam_stock.specs.declared.item.Lamina.{Lamina}
 use Rattle.lam_stock.specs.declared.scale.Scale.{Scale}
 use Rattle.lam_lamina.specs.Covered.{IsCovered}
+use Rattle.lam_lamina.specs.Work.{WorksBetween}
+use Rattle.lam_lamina.proofs.Bounds.{elastic, spans}
+use Rattle.lam_lamina.proofs.Form.{form-least, form-greatest}
 use Rattle.lam_lamina.proofs.Moduli.{Underlies}
 
 at_most_stiff : (l : Lamina) → ModuliInRange l → stiffness l ≤ℤ pos (2 ^ 21)
@@ -43,10 +46,10 @@ module _ (items : List Item) (scale : Scale) (limits : All WithinLimits items) (
   -- the scale covers each item
   pub catalogue-covered : All (λ i. IsCovered scale.q0 i.lamina) items
   catalogue-covered = λ k d within. record {
-    range = (limits k d within).range.moduli;
-    poisson = (limits k d within).poisson;
+    range = (limits k d within).limits.range.moduli;
+    poisson = (limits k d within).limits.poisson;
     covered = is_scale.covers k d within;
-    greatest = small (is_scale.least_power 21 (λ j e inside. at_most_stiff _ (limits j e inside).range.moduli));
+    greatest = small (is_scale.least_power 21 (λ j e inside. at_most_stiff _ (limits j e inside).limits.range.moduli));
   }
     where
       small : {q : ℤ} → q ≤ℤ pos (2 ^ 21) → q ≤ℤ pos 4194304
@@ -54,4 +57,11 @@ module _ (items : List Item) (scale : Scale) (limits : All WithinLimits items) (
 
   -- and its floor lies under each
   pub catalogue-underlies : All (λ i. Underlies scale.floor i.lamina) items
-  catalogue-underlies = λ k d within. soft_underlies scale.floor _ (limits k d within).range.moduli (is_scale.below k d within)
+  catalogue-underlies = λ k d within. soft_underlies scale.floor _ (limits k d within).limits.range.moduli (is_scale.below k d within)
+
+  -- so the work of each layer lies between them
+  pub catalogue-works : All (WorksBetween scale.floor scale.q0) items
+  catalogue-works = λ k d within e. (
+    form-least _ (elastic (catalogue-covered k d within)) (catalogue-underlies k d within) (limits k d within).direction e,
+    form-greatest _ (elastic (catalogue-covered k d within)) (spans (catalogue-covered k d within)) (limits k d within).direction e,
+  )

@@ -1,21 +1,22 @@
 -- The work of a layer's stiffness, over a scale that covers it, and how large its entries are.
-use Rattle.std.proofs.Common.{◌≡◌, refl, sym, ◌∙◌, ap, subst, subst₂, ℤ, pos, negsuc, ◌+ℤ◌, ◌*ℤ◌, ◌≤ℤ◌, ◌<ℤ◌, [], ◌∷◌, arith}
+use Rattle.std.proofs.Common.{◌≡◌, refl, sym, ◌∙◌, ap, subst, ℤ, pos, negsuc, ◌≤ℤ◌, [], ◌∷◌, arith}
 use Rattle.std.proofs.lemmas.Int.{ints}
-use Rattle.lam_fraction.specs.Fraction.{ℚ, whole, ◌+ℚ◌, ◌-ℚ◌, ◌*ℚ◌, ◌/ℚ◌, opposite, inverse, fraction, ◌≤ℚ◌, ◌<ℚ◌}
+use Rattle.lam_fraction.specs.Fraction.{ℚ, whole, ◌-ℚ◌, ◌*ℚ◌, ◌/ℚ◌, opposite, inverse, fraction, ◌≤ℚ◌, ◌<ℚ◌}
 use Rattle.lam_fraction.proofs.FractionPairs.{whole-lt}
 use Rattle.lam_fraction.proofs.Expression.{int, ◌⊕◌, ◌⊖◌, ◌⊗◌, minus}
 use Rattle.lam_fraction.proofs.Integers as Z
 use Rattle.lam_fraction.proofs.Solver.{quotes, ◌≐◌}
-use Rattle.lam_fraction.proofs.Rationals.{by_ring, solve, from₁, above, weaken, at_most, at_most_over, transitive, number, positive_number, inverse_positive, ◌+ₙ◌, ◌*ₙ◌}
+use Rattle.lam_fraction.proofs.Rationals.{by_ring, solve, from₁, above, weaken, at_most, at_most_over, number, positive_number, inverse_positive, ◌+ₙ◌, ◌*ₙ◌}
 use Rattle.lam_fraction.proofs.FractionBounds.{times-inverse}
 use Rattle.lam_direction.specs.Circle.{CirclePoint, IsDirection}
 use Rattle.lam_stock.specs.declared.item.Lamina.{Lamina}
 use Rattle.lam_stock.specs.declared.item.Kind.{Kind}
-use Rattle.lam_stock.specs.PlyLaw.{InWall, two, layer_stress}
+use Rattle.lam_stock.specs.PlyLaw.{InWall, layer_stress}
 use Rattle.lam_lamina.specs.Covered.{IsCovered}
-use Rattle.lam_lamina.specs.Stiffness.{Symmetric, stress_of, stress_over, unit_x, unit_y, unit_s, stiffness_over, IsStiffness, IsBounded, AtMostOne}
+use Rattle.lam_lamina.specs.Stiffness.{Symmetric, stress_of, stress_over, unit_x, unit_y, unit_s, stiffness_over, IsBounded}
 use Rattle.lam_lamina.proofs.Bounds.{elastic, spans, scale_positive}
-use Rattle.lam_lamina.proofs.Form.{work, squares, form-least, form-greatest, half_not_negative}
+use Rattle.lam_lamina.specs.Work.{work, squares}
+use Rattle.lam_lamina.proofs.Form.{form-least, form-greatest, half_not_negative}
 use Rattle.lam_lamina.proofs.Identities.{stiffness-gives}
 use Rattle.lam_lamina.proofs.Moduli.{Underlies}
 use Rattle.lam_lamina.proofs.Turning.{two_halves}

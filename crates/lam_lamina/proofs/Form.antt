@@ -11,16 +11,9 @@ use Rattle.lam_stock.specs.declared.item.Lamina.{Lamina}
 use Rattle.lam_stock.specs.declared.item.Kind.{Kind}
 use Rattle.lam_stock.specs.declared.item.Kind.TheVariants.{Ply, Pair}
 use Rattle.lam_stock.specs.PlyLaw.{InWall, InPly, two, mean, ply_stress, strain_turned, stress_turned_back, cosine, sine, Side, Plus, Minus, side_point, side_wall_stress, layer_stress, reduced_11, reduced_12, reduced_22, reduced_66}
+use Rattle.lam_lamina.specs.Work.{work, squares}
 use Rattle.lam_lamina.proofs.Moduli.{IsElastic, Spans, Underlies, along_stiff, trace_positive, trace_at_most, determinant_positive, determinant_at_least, shear_at_most, shear_at_least}
 use Rattle.lam_lamina.proofs.Turning.{two_halves, IsTurn, direction-turn, mirrored-turn, cosine-mirrored, sine-mirrored}
-
--- the work of a stress in a strain, for each unit of volume
-abbrev pub work : InWall → InWall → ℚ
-work t e = t.x *ℚ e.x +ℚ t.y *ℚ e.y +ℚ t.s *ℚ e.s
-
--- the squares of a strain: ex² + ey² + g²/2
-abbrev pub squares : InWall → ℚ
-squares e = e.x *ℚ e.x +ℚ e.y *ℚ e.y +ℚ fraction (pos 1) (pos 2) *ℚ (e.s *ℚ e.s)
 
 -- ---- the same in the axes of a ply
 

@@ -3,7 +3,7 @@ use Rattle.std.proofs.Common.{◌≡◌, refl, sym, ◌∙◌, ap, ap₂, subst,
 use Rattle.std.specs.Prelude.{unsigned_abs}
 use Rattle.std.proofs.Math.Nat.{mul-le-mul}
 use Rattle.std.proofs.lemmas.Int.{ints, unsigned_abs-mul}
-use Rattle.lam_fraction.specs.Fraction.{ℚ, whole, ◌+ℚ◌, ◌-ℚ◌, ◌*ℚ◌, opposite, fraction, ◌≤ℚ◌, ◌/ℚ◌}
+use Rattle.lam_fraction.specs.Fraction.{ℚ, whole, ◌+ℚ◌, ◌-ℚ◌, ◌*ℚ◌, opposite, fraction, ◌/ℚ◌}
 use Rattle.lam_fraction.proofs.FractionPairs.{fraction-product}
 use Rattle.lam_fraction.proofs.Expression.{int, ◌⊕◌, ◌⊖◌, ◌⊗◌, minus}
 use Rattle.lam_fraction.proofs.Solver.{◌≐◌}
@@ -33,7 +33,7 @@ ratio-held s l g a b z x y least e f h = subst (Encloses s l g) (ap₂ fraction 
     positive : pos 0 <ℤ z
     positive = omega (arith, ints, least)
 
-within : (p q h : ℤ) → pos 1 ≤ℤ h → h ≤ℤ pos 1000 → p *ℤ p +ℤ q *ℤ q ≡ h *ℤ h → IsWithin (record { cosine = p *ℤ p; sine = q *ℤ q; both = q *ℤ p; size = h *ℤ h })
+within : (p q h : ℤ) → pos 1 ≤ℤ h → h ≤ℤ pos 1000 → p *ℤ p +ℤ q *ℤ q ≡ h *ℤ h → IsWithin (record { cosine_square = p *ℤ p; sine_square = q *ℤ q; product = q *ℤ p; size = h *ℤ h })
 unfolding ◌-ℚ◌ ◌/ℚ◌
 within p q h least greatest circle =
     let cosine_square : pos 0 ≤ℤ (p *ℤ p) = Z.square p in
@@ -45,9 +45,9 @@ within p q h least greatest circle =
     record {
       least = positive;
       greatest = omega (arith, ints);
-      cosine = omega (arith, ints, circle);
-      sine = omega (arith, ints, circle);
-      both = omega (arith, ints, circle);
+      cosine_square = omega (arith, ints, circle);
+      sine_square = omega (arith, ints, circle);
+      product = omega (arith, ints, circle);
     }
   where
     small : (h : ℤ) → pos 1 ≤ℤ h → h ≤ℤ pos 1000 → unsigned_abs h ≤ 1000
@@ -58,17 +58,17 @@ turn-within {d} h e = subst IsWithin (sym e) (within d.p d.q d.h h.least_size h.
 
 -- ---- fractions
 
-pub cosine-square : {d : CirclePoint} {t : Turn} {x z : ℤ} → IsDirection d → t ≡ turn_of d → x ≡ t.cosine → z ≡ t.size → fraction x z ≡ cosine d *ℚ cosine d
+pub cosine-square : {d : CirclePoint} {t : Turn} {x z : ℤ} → IsDirection d → t ≡ turn_of d → x ≡ t.cosine_square → z ≡ t.size → fraction x z ≡ cosine d *ℚ cosine d
 unfolding cosine
-cosine-square {d} h e i j = ap₂ fraction i j ∙ ap (λ t. fraction t.cosine t.size) e ∙ sym (fraction-product d.p d.h d.p d.h (size_positive h) (size_positive h))
+cosine-square {d} h e i j = ap₂ fraction i j ∙ ap (λ t. fraction t.cosine_square t.size) e ∙ sym (fraction-product d.p d.h d.p d.h (size_positive h) (size_positive h))
 
-pub sine-square : {d : CirclePoint} {t : Turn} {x z : ℤ} → IsDirection d → t ≡ turn_of d → x ≡ t.sine → z ≡ t.size → fraction x z ≡ sine d *ℚ sine d
+pub sine-square : {d : CirclePoint} {t : Turn} {x z : ℤ} → IsDirection d → t ≡ turn_of d → x ≡ t.sine_square → z ≡ t.size → fraction x z ≡ sine d *ℚ sine d
 unfolding sine
-sine-square {d} h e i j = ap₂ fraction i j ∙ ap (λ t. fraction t.sine t.size) e ∙ sym (fraction-product d.q d.h d.q d.h (size_positive h) (size_positive h))
+sine-square {d} h e i j = ap₂ fraction i j ∙ ap (λ t. fraction t.sine_square t.size) e ∙ sym (fraction-product d.q d.h d.q d.h (size_positive h) (size_positive h))
 
-pub both-product : {d : CirclePoint} {t : Turn} {x z : ℤ} → IsDirection d → t ≡ turn_of d → x ≡ t.both → z ≡ t.size → fraction x z ≡ sine d *ℚ cosine d
+pub both-product : {d : CirclePoint} {t : Turn} {x z : ℤ} → IsDirection d → t ≡ turn_of d → x ≡ t.product → z ≡ t.size → fraction x z ≡ sine d *ℚ cosine d
 unfolding sine cosine
-both-product {d} h e i j = ap₂ fraction i j ∙ ap (λ t. fraction t.both t.size) e ∙ sym (fraction-product d.q d.h d.p d.h (size_positive h) (size_positive h))
+both-product {d} h e i j = ap₂ fraction i j ∙ ap (λ t. fraction t.product t.size) e ∙ sym (fraction-product d.q d.h d.p d.h (size_positive h) (size_positive h))
 
 -- ---- sizes
 module _ (c s : ℚ) (turn : IsTurn c s) where

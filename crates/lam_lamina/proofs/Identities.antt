@@ -1,5 +1,5 @@
 -- The usual formulas of the transformed stiffness are the ply law, turned.
-use Rattle.std.proofs.Common.{◌≡◌, refl, sym, ◌∙◌, ap, ap₂, subst, ℤ, pos, [], ◌∷◌}
+use Rattle.std.proofs.Common.{◌≡◌, refl, sym, ◌∙◌, ap, subst, ℤ, pos, [], ◌∷◌}
 use Rattle.lam_fraction.specs.Fraction.{ℚ, whole, ◌+ℚ◌, ◌-ℚ◌, ◌*ℚ◌, ◌/ℚ◌, opposite, inverse, fraction}
 use Rattle.lam_fraction.proofs.Expression.{int, ◌⊕◌, ◌⊗◌}
 use Rattle.lam_fraction.proofs.Solver.{quotes, ◌≐◌}
@@ -8,7 +8,7 @@ use Rattle.lam_direction.specs.Circle.{CirclePoint}
 use Rattle.lam_stock.specs.declared.item.Lamina.{Lamina}
 use Rattle.lam_stock.specs.declared.item.Kind.{Kind}
 use Rattle.lam_stock.specs.declared.item.Kind.TheVariants.{Ply, Pair}
-use Rattle.lam_stock.specs.PlyLaw.{InWall, InPly, mean, strain_turned, stress_turned_back, cosine, sine, layer_stress, reduced_11, reduced_12, reduced_22, reduced_66}
+use Rattle.lam_stock.specs.PlyLaw.{InWall, InPly, mean, strain_turned, stress_turned_back, cosine, sine, reduced_11, reduced_12, reduced_22, reduced_66}
 use Rattle.lam_lamina.proofs.Turning.{two_halves, sine-mirrored}
 use Rattle.lam_lamina.specs.Formulas.{turned_stiffness, uncoupled}
 use Rattle.lam_lamina.specs.Stiffness.{Moduli, moduli_over, Symmetric, stress_of, stress_over, unit_x, unit_y, unit_s, stiffness_over, IsStiffness}

@@ -1,6 +1,5 @@
 -- What sets of enclosures hold, and how narrow they are.
 use Rattle.std.specs.Prelude.{ℕ, ◌*◌, ◌≤◌, ℤ, unsigned_abs}
-use Rattle.lam_fraction.specs.Fraction.{ℚ}
 use Rattle.lam_number.specs.Encloses.{Encloses}
 use Rattle.lam_number.specs.Ends.{width}
 use Rattle.lam_lamina.specs.declared.stiffness.Reduced.{Reduced}

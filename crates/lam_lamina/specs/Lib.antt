@@ -5,3 +5,4 @@ pub mod Known
 pub mod Stiffness
 pub mod Turn
 pub mod Values
+pub mod Work

@@ -1,16 +1,16 @@
 -- The whole numbers from which the powers of a cosine and a sine come.
-use Rattle.std.specs.Prelude.{ℕ, ◌≤◌, ℤ, pos, ◌*ℤ◌, ◌≤ℤ◌, unsigned_abs}
+use Rattle.std.specs.Prelude.{◌≤◌, pos, ◌*ℤ◌, ◌≤ℤ◌, unsigned_abs}
 use Rattle.lam_direction.specs.Circle.{CirclePoint}
 use Rattle.lam_lamina.specs.declared.powers.Turn.{Turn}
 
 -- the squares and the product of a direction's numbers
 abbrev pub turn_of : CirclePoint → Turn
-turn_of d = record { cosine = d.p *ℤ d.p; sine = d.q *ℤ d.q; both = d.q *ℤ d.p; size = d.h *ℤ d.h }
+turn_of d = record { cosine_square = d.p *ℤ d.p; sine_square = d.q *ℤ d.q; product = d.q *ℤ d.p; size = d.h *ℤ d.h }
 
--- the size is that of no more than a million, and the others do not exceed it
+-- the size is from 1 to a million, and the others do not exceed it
 pub record IsWithin (t : Turn) : Type 0 where
   pub least : pos 1 ≤ℤ t.size
   pub greatest : t.size ≤ℤ pos 1000000
-  pub cosine : unsigned_abs t.cosine ≤ unsigned_abs t.size
-  pub sine : unsigned_abs t.sine ≤ unsigned_abs t.size
-  pub both : unsigned_abs t.both ≤ unsigned_abs t.size
+  pub cosine_square : unsigned_abs t.cosine_square ≤ unsigned_abs t.size
+  pub sine_square : unsigned_abs t.sine_square ≤ unsigned_abs t.size
+  pub product : unsigned_abs t.product ≤ unsigned_abs t.size

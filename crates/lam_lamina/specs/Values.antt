@@ -15,11 +15,11 @@ use Rattle.lam_lamina.specs.declared.stiffness.Sym3.{Sym3}
 
 abbrev pub powers_value : {A : Type 0} → Values A → Turn → Powers A
 powers_value v t = record {
-  cosine_fourth = v.ratio (t.cosine *ℤ t.cosine) (t.size *ℤ t.size);
-  sine_fourth = v.ratio (t.sine *ℤ t.sine) (t.size *ℤ t.size);
-  squares = v.ratio (t.sine *ℤ t.cosine) (t.size *ℤ t.size);
-  cosine_third = v.ratio (t.both *ℤ t.cosine) (t.size *ℤ t.size);
-  sine_third = v.ratio (t.both *ℤ t.sine) (t.size *ℤ t.size);
+  cosine_fourth = v.ratio (t.cosine_square *ℤ t.cosine_square) (t.size *ℤ t.size);
+  sine_fourth = v.ratio (t.sine_square *ℤ t.sine_square) (t.size *ℤ t.size);
+  squares = v.ratio (t.sine_square *ℤ t.cosine_square) (t.size *ℤ t.size);
+  cosine_third = v.ratio (t.product *ℤ t.cosine_square) (t.size *ℤ t.size);
+  sine_third = v.ratio (t.product *ℤ t.sine_square) (t.size *ℤ t.size);
 }
 
 abbrev pub coupling_value : {A : Type 0} → Values A → Reduced A → A

@@ -25,12 +25,15 @@ use lam_stock::{Item, Kind, Scale};
 /// both directions of a pair.
 pub fn item_stiffness<N: Enclosure>(item: &Item, scale: &Scale) -> Sym3<N>
     requires { IsCovered scale.now.q0 item.now.lamina }
-    ensures held { HoldsMatrix N.SCALE N.low_end N.high_end result (stiffness_over scale.now.q0 item.now.kind item.now.lamina item.now.dir) }
-    ensures stiffness { let q0 = scale.now.q0 in let i = item.now in
-        IsStiffness q0 i.kind i.lamina i.dir (stiffness_over q0 i.kind i.lamina i.dir) }
-    ensures bounded { IsBounded (stiffness_over scale.now.q0 item.now.kind item.now.lamina item.now.dir) }
+    ensures held { HoldsMatrix N.SCALE N.low_end N.high_end result
+        (stiffness_over scale.now.q0 item.now.kind item.now.lamina item.now.dir) }
+    ensures stiffness { IsStiffness scale.now.q0 item.now.kind item.now.lamina item.now.dir
+        (stiffness_over scale.now.q0 item.now.kind item.now.lamina item.now.dir) }
+    ensures bounded { IsBounded
+        (stiffness_over scale.now.q0 item.now.kind item.now.lamina item.now.dir) }
     ensures narrow { NarrowMatrix 32 N.SLOP N.low_end N.high_end result }
-    ensures value { result ≡ item_value N.values scale.now.q0 item.now.kind item.now.lamina item.now.dir }
+    ensures value { result
+        ≡ item_value N.values scale.now.q0 item.now.kind item.now.lamina item.now.dir }
 {
     let reduced = reduced(&item.lamina, scale);
     let turned = transformed(&reduced, &item.dir);
@@ -43,9 +46,11 @@ pub fn item_stiffness<N: Enclosure>(item: &Item, scale: &Scale) -> Sym3<N>
 /// The stiffness of a ply in the axes of the wall, from its reduced stiffness (Jones, the transformed reduced
 /// stiffnesses).
 pub fn transformed<N: Enclosure>(reduced: &Reduced<N>, dir: &Direction) -> Sym3<N>
-    requires lamina { (q0 : ℤ) × (l : Lamina) × IsCovered q0 l × HoldsModuli N.SCALE N.low_end N.high_end reduced.now (moduli_over q0 l) }
+    requires lamina { (q0 : ℤ) × (l : Lamina) × IsCovered q0 l
+        × HoldsModuli N.SCALE N.low_end N.high_end reduced.now (moduli_over q0 l) }
     requires narrow { NarrowModuli 1 N.SLOP N.low_end N.high_end reduced.now }
-    ensures held { (q0 : ℤ) (l : Lamina) → IsCovered q0 l → HoldsModuli N.SCALE N.low_end N.high_end reduced.now (moduli_over q0 l)
+    ensures held { (q0 : ℤ) (l : Lamina) → IsCovered q0 l
+        → HoldsModuli N.SCALE N.low_end N.high_end reduced.now (moduli_over q0 l)
         → HoldsMatrix N.SCALE N.low_end N.high_end result (stiffness_over q0 Ply l dir.now) }
     ensures stiffness { (q0 : ℤ) (l : Lamina) → IsStiffness q0 Ply l dir.now (stiffness_over q0 Ply l dir.now) }
     ensures narrow { NarrowMatrix 32 N.SLOP N.low_end N.high_end result }
@@ -60,7 +65,9 @@ pub fn transformed<N: Enclosure>(reduced: &Reduced<N>, dir: &Direction) -> Sym3<
 // mirror image
 fn uncoupled<N: Enclosure>(matrix: &Sym3<N>) -> Sym3<N>
     requires { NarrowMatrix 32 N.SLOP N.low_end N.high_end matrix.now }
-    ensures held { (m : Symmetric) → HoldsMatrix N.SCALE N.low_end N.high_end matrix.now m → HoldsMatrix N.SCALE N.low_end N.high_end result (uncoupled m) }
+    ensures held { (m : Symmetric)
+        → HoldsMatrix N.SCALE N.low_end N.high_end matrix.now m
+        → HoldsMatrix N.SCALE N.low_end N.high_end result (uncoupled m) }
     ensures narrow { NarrowMatrix 32 N.SLOP N.low_end N.high_end result }
     ensures value { result ≡ uncoupled_value N.values matrix.now }
 {

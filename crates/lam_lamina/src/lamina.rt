@@ -20,7 +20,8 @@ use lam_stock::{Lamina, Scale};
 /// `Q11 = E1/(1 - n12 n21)`, `Q12 = n12 E2/(1 - n12 n21)`, `Q22 = E2/(1 - n12 n21)` and `Q66 = G12`.
 pub fn reduced<N: Enclosure>(lamina: &Lamina, scale: &Scale) -> Reduced<N>
     requires { IsCovered scale.now.q0 lamina.now }
-    ensures held { HoldsModuli N.SCALE N.low_end N.high_end result (moduli_over scale.now.q0 lamina.now) }
+    ensures held { HoldsModuli N.SCALE N.low_end N.high_end result
+        (moduli_over scale.now.q0 lamina.now) }
     ensures narrow { NarrowModuli 1 N.SLOP N.low_end N.high_end result }
     ensures value { result ≡ reduced_value N.values scale.now.q0 lamina.now }
 {

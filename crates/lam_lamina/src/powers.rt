@@ -31,25 +31,26 @@ pub struct Powers<N> {
 /// The squares of a cosine and a sine and their product, over a common size.
 #[derive(Clone, Copy)]
 pub struct Turn {
-    pub cosine: i64,
-    pub sine: i64,
-    pub both: i64,
+    pub cosine_square: i64,
+    pub sine_square: i64,
+    pub product: i64,
     pub size: i64,
 }
 
 /// The powers of a direction's cosine and sine.
 pub fn direction_powers<N: Enclosure>(dir: &Direction) -> Powers<N>
-    ensures known { KnownPowers N.SCALE (unsigned_abs N.SLOP) N.low_end N.high_end result (cosine dir.now) (sine dir.now) }
+    ensures known { KnownPowers N.SCALE (unsigned_abs N.SLOP) N.low_end N.high_end result
+        (cosine dir.now) (sine dir.now) }
     ensures direction { IsDirection dir.now }
     ensures value { result ≡ powers_value N.values (turn_of dir.now) }
 {
     let turn = direction_turn(dir);
     Powers {
-        cosine_fourth: power(turn.cosine, turn.cosine, turn.size),
-        sine_fourth: power(turn.sine, turn.sine, turn.size),
-        squares: power(turn.sine, turn.cosine, turn.size),
-        cosine_third: power(turn.both, turn.cosine, turn.size),
-        sine_third: power(turn.both, turn.sine, turn.size),
+        cosine_fourth: power(turn.cosine_square, turn.cosine_square, turn.size),
+        sine_fourth: power(turn.sine_square, turn.sine_square, turn.size),
+        squares: power(turn.sine_square, turn.cosine_square, turn.size),
+        cosine_third: power(turn.product, turn.cosine_square, turn.size),
+        sine_third: power(turn.product, turn.sine_square, turn.size),
     }
 }
 
@@ -59,7 +60,8 @@ fn power<N: Enclosure>(first: i64, second: i64, size: i64) -> N
     requires greatest { size ≤ℤ pos 1000000 }
     requires first { unsigned_abs first ≤ unsigned_abs size }
     requires second { unsigned_abs second ≤ unsigned_abs size }
-    ensures held { Encloses N.SCALE (N.low_end result) (N.high_end result) (fraction first size *ℚ fraction second size) }
+    ensures held { Encloses N.SCALE (N.low_end result) (N.high_end result)
+        (fraction first size *ℚ fraction second size) }
     ensures narrow { width (N.low_end result) (N.high_end result) ≤ 1 * unsigned_abs N.SLOP }
     ensures value { result ≡ N.values.ratio (first *ℤ second) (size *ℤ size) }
 {
@@ -74,9 +76,9 @@ fn direction_turn(dir: &Direction) -> Turn
 {
     let (p, q, h) = (dir.p(), dir.q(), dir.h());
     Turn {
-        cosine: small_product(p, p),
-        sine: small_product(q, q),
-        both: small_product(q, p),
+        cosine_square: small_product(p, p),
+        sine_square: small_product(q, q),
+        product: small_product(q, p),
         size: small_product(h, h),
     }
 }

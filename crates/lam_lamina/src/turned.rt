@@ -13,9 +13,12 @@ use lam_number::Enclosure;
 
 /// The formulas of the transformed stiffness.
 pub fn turned<N: Enclosure>(reduced: &Reduced<N>, powers: &Powers<N>) -> Sym3<N>
-    requires moduli { (m : Moduli) × KnownModuli N.SCALE (unsigned_abs N.SLOP) N.low_end N.high_end reduced.now m }
-    requires powers { (c : ℚ) × (s : ℚ) × KnownPowers N.SCALE (unsigned_abs N.SLOP) N.low_end N.high_end powers.now c s }
-    ensures known { (m : Moduli) (c s : ℚ) → KnownModuli N.SCALE (unsigned_abs N.SLOP) N.low_end N.high_end reduced.now m
+    requires moduli { (m : Moduli)
+        × KnownModuli N.SCALE (unsigned_abs N.SLOP) N.low_end N.high_end reduced.now m }
+    requires powers { (c : ℚ) × (s : ℚ)
+        × KnownPowers N.SCALE (unsigned_abs N.SLOP) N.low_end N.high_end powers.now c s }
+    ensures known { (m : Moduli) (c s : ℚ)
+        → KnownModuli N.SCALE (unsigned_abs N.SLOP) N.low_end N.high_end reduced.now m
         → KnownPowers N.SCALE (unsigned_abs N.SLOP) N.low_end N.high_end powers.now c s
         → KnownMatrix N.SCALE (unsigned_abs N.SLOP) N.low_end N.high_end result (turned_stiffness m c s) }
     ensures value { result ≡ turned_value N.values reduced.now powers.now }
@@ -33,11 +36,16 @@ pub fn turned<N: Enclosure>(reduced: &Reduced<N>, powers: &Powers<N>) -> Sym3<N>
 
 // Q11 x + between + Q22 y
 fn normal<N: Enclosure>(reduced: &Reduced<N>, between: N, x: N, y: N) -> N
-    requires moduli { (m : Moduli) × KnownModuli N.SCALE (unsigned_abs N.SLOP) N.low_end N.high_end reduced.now m }
-    requires between { (k : ℚ) × Known N.SCALE (unsigned_abs N.SLOP) (N.low_end between) (N.high_end between) 8 3 k }
-    requires x { (u : ℚ) × Known N.SCALE (unsigned_abs N.SLOP) (N.low_end x) (N.high_end x) 1 4 u }
-    requires y { (v : ℚ) × Known N.SCALE (unsigned_abs N.SLOP) (N.low_end y) (N.high_end y) 1 4 v }
-    ensures known { (m : Moduli) (k u v : ℚ) → KnownModuli N.SCALE (unsigned_abs N.SLOP) N.low_end N.high_end reduced.now m
+    requires moduli { (m : Moduli)
+        × KnownModuli N.SCALE (unsigned_abs N.SLOP) N.low_end N.high_end reduced.now m }
+    requires between { (k : ℚ)
+        × Known N.SCALE (unsigned_abs N.SLOP) (N.low_end between) (N.high_end between) 8 3 k }
+    requires x { (u : ℚ)
+        × Known N.SCALE (unsigned_abs N.SLOP) (N.low_end x) (N.high_end x) 1 4 u }
+    requires y { (v : ℚ)
+        × Known N.SCALE (unsigned_abs N.SLOP) (N.low_end y) (N.high_end y) 1 4 v }
+    ensures known { (m : Moduli) (k u v : ℚ)
+        → KnownModuli N.SCALE (unsigned_abs N.SLOP) N.low_end N.high_end reduced.now m
         → Known N.SCALE (unsigned_abs N.SLOP) (N.low_end between) (N.high_end between) 8 3 k
         → Known N.SCALE (unsigned_abs N.SLOP) (N.low_end x) (N.high_end x) 1 4 u
         → Known N.SCALE (unsigned_abs N.SLOP) (N.low_end y) (N.high_end y) 1 4 v
@@ -52,10 +60,14 @@ fn normal<N: Enclosure>(reduced: &Reduced<N>, between: N, x: N, y: N) -> N
 
 // a difference times s²c², and a modulus times s⁴ + c⁴
 fn mixed<N: Enclosure>(difference: N, modulus: N, powers: &Powers<N>) -> N
-    requires difference { (d : ℚ) × Known N.SCALE (unsigned_abs N.SLOP) (N.low_end difference) (N.high_end difference) 11 16 d }
-    requires modulus { (q : ℚ) × Known N.SCALE (unsigned_abs N.SLOP) (N.low_end modulus) (N.high_end modulus) 1 2 q }
-    requires powers { (c : ℚ) × (s : ℚ) × KnownPowers N.SCALE (unsigned_abs N.SLOP) N.low_end N.high_end powers.now c s }
-    ensures known { (d q c s : ℚ) → Known N.SCALE (unsigned_abs N.SLOP) (N.low_end difference) (N.high_end difference) 11 16 d
+    requires difference { (d : ℚ)
+        × Known N.SCALE (unsigned_abs N.SLOP) (N.low_end difference) (N.high_end difference) 11 16 d }
+    requires modulus { (q : ℚ)
+        × Known N.SCALE (unsigned_abs N.SLOP) (N.low_end modulus) (N.high_end modulus) 1 2 q }
+    requires powers { (c : ℚ) × (s : ℚ)
+        × KnownPowers N.SCALE (unsigned_abs N.SLOP) N.low_end N.high_end powers.now c s }
+    ensures known { (d q c s : ℚ)
+        → Known N.SCALE (unsigned_abs N.SLOP) (N.low_end difference) (N.high_end difference) 11 16 d
         → Known N.SCALE (unsigned_abs N.SLOP) (N.low_end modulus) (N.high_end modulus) 1 2 q
         → KnownPowers N.SCALE (unsigned_abs N.SLOP) N.low_end N.high_end powers.now c s
         → Known N.SCALE (unsigned_abs N.SLOP) (N.low_end result) (N.high_end result) 16 8 (mixed_of d q c s) }
@@ -69,10 +81,14 @@ fn mixed<N: Enclosure>(difference: N, modulus: N, powers: &Powers<N>) -> N
 
 // (Q11 - Q12 - 2 Q66) x + (Q12 + 2 Q66 - Q22) y
 fn skew<N: Enclosure>(reduced: &Reduced<N>, x: N, y: N) -> N
-    requires moduli { (m : Moduli) × KnownModuli N.SCALE (unsigned_abs N.SLOP) N.low_end N.high_end reduced.now m }
-    requires x { (u : ℚ) × Known N.SCALE (unsigned_abs N.SLOP) (N.low_end x) (N.high_end x) 1 2 u }
-    requires y { (v : ℚ) × Known N.SCALE (unsigned_abs N.SLOP) (N.low_end y) (N.high_end y) 1 2 v }
-    ensures known { (m : Moduli) (u v : ℚ) → KnownModuli N.SCALE (unsigned_abs N.SLOP) N.low_end N.high_end reduced.now m
+    requires moduli { (m : Moduli)
+        × KnownModuli N.SCALE (unsigned_abs N.SLOP) N.low_end N.high_end reduced.now m }
+    requires x { (u : ℚ)
+        × Known N.SCALE (unsigned_abs N.SLOP) (N.low_end x) (N.high_end x) 1 2 u }
+    requires y { (v : ℚ)
+        × Known N.SCALE (unsigned_abs N.SLOP) (N.low_end y) (N.high_end y) 1 2 v }
+    ensures known { (m : Moduli) (u v : ℚ)
+        → KnownModuli N.SCALE (unsigned_abs N.SLOP) N.low_end N.high_end reduced.now m
         → Known N.SCALE (unsigned_abs N.SLOP) (N.low_end x) (N.high_end x) 1 2 u
         → Known N.SCALE (unsigned_abs N.SLOP) (N.low_end y) (N.high_end y) 1 2 v
         → Known N.SCALE (unsigned_abs N.SLOP) (N.low_end result) (N.high_end result) 17 10 (skew_of m u v) }
@@ -88,9 +104,12 @@ fn skew<N: Enclosure>(reduced: &Reduced<N>, x: N, y: N) -> N
 
 // 2 (Q12 + 2 Q66) x
 fn between<N: Enclosure>(reduced: &Reduced<N>, x: N) -> N
-    requires moduli { (m : Moduli) × KnownModuli N.SCALE (unsigned_abs N.SLOP) N.low_end N.high_end reduced.now m }
-    requires x { (u : ℚ) × Known N.SCALE (unsigned_abs N.SLOP) (N.low_end x) (N.high_end x) 1 1 u }
-    ensures known { (m : Moduli) (u : ℚ) → KnownModuli N.SCALE (unsigned_abs N.SLOP) N.low_end N.high_end reduced.now m
+    requires moduli { (m : Moduli)
+        × KnownModuli N.SCALE (unsigned_abs N.SLOP) N.low_end N.high_end reduced.now m }
+    requires x { (u : ℚ)
+        × Known N.SCALE (unsigned_abs N.SLOP) (N.low_end x) (N.high_end x) 1 1 u }
+    ensures known { (m : Moduli) (u : ℚ)
+        → KnownModuli N.SCALE (unsigned_abs N.SLOP) N.low_end N.high_end reduced.now m
         → Known N.SCALE (unsigned_abs N.SLOP) (N.low_end x) (N.high_end x) 1 1 u
         → Known N.SCALE (unsigned_abs N.SLOP) (N.low_end result) (N.high_end result) 8 3 (between_of m u) }
     ensures value { result ≡ between_value N.values reduced.now x }
@@ -102,8 +121,10 @@ fn between<N: Enclosure>(reduced: &Reduced<N>, x: N) -> N
 
 // Q12 + 2 Q66
 fn coupling<N: Enclosure>(reduced: &Reduced<N>) -> N
-    requires { (m : Moduli) × KnownModuli N.SCALE (unsigned_abs N.SLOP) N.low_end N.high_end reduced.now m }
-    ensures known { (m : Moduli) → KnownModuli N.SCALE (unsigned_abs N.SLOP) N.low_end N.high_end reduced.now m
+    requires { (m : Moduli)
+        × KnownModuli N.SCALE (unsigned_abs N.SLOP) N.low_end N.high_end reduced.now m }
+    ensures known { (m : Moduli)
+        → KnownModuli N.SCALE (unsigned_abs N.SLOP) N.low_end N.high_end reduced.now m
         → Known N.SCALE (unsigned_abs N.SLOP) (N.low_end result) (N.high_end result) 5 6 (coupling_of m) }
     ensures value { result ≡ coupling_value N.values reduced.now }
 {
@@ -113,8 +134,10 @@ fn coupling<N: Enclosure>(reduced: &Reduced<N>) -> N
 
 // Q11 + Q22 - 4 Q66
 fn normal_difference<N: Enclosure>(reduced: &Reduced<N>) -> N
-    requires { (m : Moduli) × KnownModuli N.SCALE (unsigned_abs N.SLOP) N.low_end N.high_end reduced.now m }
-    ensures known { (m : Moduli) → KnownModuli N.SCALE (unsigned_abs N.SLOP) N.low_end N.high_end reduced.now m
+    requires { (m : Moduli)
+        × KnownModuli N.SCALE (unsigned_abs N.SLOP) N.low_end N.high_end reduced.now m }
+    ensures known { (m : Moduli)
+        → KnownModuli N.SCALE (unsigned_abs N.SLOP) N.low_end N.high_end reduced.now m
         → Known N.SCALE (unsigned_abs N.SLOP) (N.low_end result) (N.high_end result) 11 16 (normal_difference_of m) }
     ensures value { result ≡ normal_difference_value N.values reduced.now }
 {
@@ -125,8 +148,10 @@ fn normal_difference<N: Enclosure>(reduced: &Reduced<N>) -> N
 
 // Q11 + Q22 - 2 Q12 - 2 Q66
 fn shear_difference<N: Enclosure>(reduced: &Reduced<N>) -> N
-    requires { (m : Moduli) × KnownModuli N.SCALE (unsigned_abs N.SLOP) N.low_end N.high_end reduced.now m }
-    ensures known { (m : Moduli) → KnownModuli N.SCALE (unsigned_abs N.SLOP) N.low_end N.high_end reduced.now m
+    requires { (m : Moduli)
+        × KnownModuli N.SCALE (unsigned_abs N.SLOP) N.low_end N.high_end reduced.now m }
+    ensures known { (m : Moduli)
+        → KnownModuli N.SCALE (unsigned_abs N.SLOP) N.low_end N.high_end reduced.now m
         → Known N.SCALE (unsigned_abs N.SLOP) (N.low_end result) (N.high_end result) 11 16 (shear_difference_of m) }
     ensures value { result ≡ shear_difference_value N.values reduced.now }
 {

@@ -7,7 +7,7 @@ use Rattle.lam_fraction.proofs.Rationals.{solve}
 use Rattle.lam_stock.specs.PlyLaw.{InWall}
 use Rattle.lam_lamina.specs.Stiffness.{Symmetric, stress_of}
 use Rattle.lam_wall.specs.Matrices.{Matrices, added, forces, moments}
-use Rattle.lam_wall.specs.Energy.{work}
+use Rattle.lam_lamina.specs.Work.{work}
 
 -- ---- one stiffness
 work-turned : (q : Symmetric) (u v : InWall) → work (stress_of q u) v ≡ work (stress_of q v) u

@@ -17,3 +17,8 @@ pub mod OnlyMatrices
 pub mod MeanSquares
 pub mod OnlyField
 pub mod Stiffnesses
+pub mod Listed
+pub mod ThicknessSteps
+pub mod FacePlaces
+pub mod RangeSteps
+pub mod CatalogueWalls

@@ -6,7 +6,8 @@ use Rattle.lam_fraction.proofs.Solver.{◌≐◌}
 use Rattle.lam_fraction.proofs.Rationals.{solve, from₁, above, square, number, positive_number, weaken, at_most, antisym, transitive, zero_square, inverse_positive, at_most_over, ◌+ₙ◌, ◌*ₙ◌}
 use Rattle.lam_fraction.proofs.FractionBounds.{times-inverse}
 use Rattle.lam_stock.specs.PlyLaw.{InWall}
-use Rattle.lam_wall.specs.Energy.{squares, mean_squares}
+use Rattle.lam_lamina.specs.Work.{squares}
+use Rattle.lam_wall.specs.Energy.{mean_squares}
 use Rattle.lam_wall.proofs.Wholes.{twice_half}
 
 abbrev half : ℚ

@@ -8,7 +8,8 @@ use Rattle.lam_fraction.proofs.FractionBounds.{fraction-times}
 use Rattle.lam_stock.specs.PlyLaw.{InWall}
 use Rattle.lam_job.specs.Wall.{wall_thickness}
 use Rattle.lam_wall.specs.Matrices.{Matrices, bending_strain, forces, moments}
-use Rattle.lam_wall.specs.Energy.{work, mean_squares}
+use Rattle.lam_lamina.specs.Work.{work}
+use Rattle.lam_wall.specs.Energy.{mean_squares}
 use Rattle.lam_wall.specs.Form.{form, FieldOnly}
 use Rattle.lam_wall.proofs.Wholes.{positive}
 use Rattle.lam_wall.proofs.Strains.{field_of, field_is}

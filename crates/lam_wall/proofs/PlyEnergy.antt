@@ -12,7 +12,7 @@ use Rattle.lam_job.specs.Wall.{Placed}
 use Rattle.lam_job.specs.Field.{Field, strain_at}
 use Rattle.lam_job.specs.Equilibrium.{item_stress, ply_force, ply_moment}
 use Rattle.lam_wall.specs.Matrices.{added}
-use Rattle.lam_wall.specs.Energy.{work, squares, WorksBetween}
+use Rattle.lam_lamina.specs.Work.{work, squares, WorksBetween}
 use Rattle.lam_wall.proofs.Wholes.{twice_half, whole-twice_and_one, whole-one_and_twice}
 use Rattle.lam_wall.proofs.LinearSums.{row, combined}
 use Rattle.lam_wall.proofs.Places.{thickness_of, with_places, with_squares}

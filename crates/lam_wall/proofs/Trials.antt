@@ -11,6 +11,7 @@ use Rattle.lam_lamina.specs.Stiffness.{Symmetric}
 use Rattle.lam_job.specs.Field.{Field}
 use Rattle.lam_job.specs.Equilibrium.{force_sum, moment_sum}
 use Rattle.lam_wall.specs.Matrices.{matrices}
+use Rattle.lam_wall.specs.Energy.{energy}
 
 unfoldable ply_of : ℤ → ℤ → Item
 ply_of e g = record {
@@ -61,3 +62,8 @@ hoop_force = antisym (record { le = refl }) (record { le = refl })
 hoop_moment : moment_sum (λ t. t.y) field wall ≡ whole (pos 0)
 unfolding ply_of wall field cosine sine reduced_11 reduced_12 reduced_22 reduced_66 whole fraction class_of ◌+ℚ◌ ◌-ℚ◌ ◌*ℚ◌ ◌/ℚ◌ opposite inverse is_at_most on_one on_two of_two
 hoop_moment = antisym (record { le = refl }) (record { le = refl })
+
+-- so the load does 300000 times that strain of work, for each unit of the wall's area
+work_of_the_load : energy field wall ≡ fraction (pos 7200000) (pos 11000)
+unfolding ply_of wall field cosine sine reduced_11 reduced_12 reduced_22 reduced_66 whole fraction class_of ◌+ℚ◌ ◌-ℚ◌ ◌*ℚ◌ ◌/ℚ◌ opposite inverse is_at_most on_one on_two of_two
+work_of_the_load = antisym (record { le = refl }) (record { le = refl })

@@ -15,7 +15,8 @@ use Rattle.lam_job.specs.Wall.{Placed, placed_from, placed_plies, wall_thickness
 use Rattle.lam_job.specs.Field.{Field}
 use Rattle.lam_job.specs.Equilibrium.{ply_force, ply_moment}
 use Rattle.lam_wall.specs.Matrices.{bending_strain}
-use Rattle.lam_wall.specs.Energy.{squares, WorksBetween, energy, mean_squares, EnergyBetween}
+use Rattle.lam_lamina.specs.Work.{squares, WorksBetween}
+use Rattle.lam_wall.specs.Energy.{energy, mean_squares, EnergyBetween}
 use Rattle.lam_wall.proofs.Wholes.{twice_half}
 use Rattle.lam_wall.proofs.LinearSums.{row, sum-row, sum-combined}
 use Rattle.lam_wall.proofs.Places.{thickness_of, with_places, with_squares, thickness_sum, wall_places_sum, wall_squares_sum}

@@ -11,7 +11,8 @@ use Rattle.lam_job.specs.Wall.{wall_thickness}
 use Rattle.lam_job.specs.Field.{Field}
 use Rattle.lam_wall.specs.Matrices.{Matrices, bending_strain, forces, moments}
 use Rattle.lam_wall.specs.MatrixLaw.{AreMatrices}
-use Rattle.lam_wall.specs.Energy.{work, energy, mean_squares}
+use Rattle.lam_lamina.specs.Work.{work}
+use Rattle.lam_wall.specs.Energy.{energy, mean_squares}
 use Rattle.lam_wall.specs.Form.{form, FormBetween}
 use Rattle.lam_wall.proofs.Wholes.{positive, twice_half, whole-product₃, whole-product₄}
 use Rattle.lam_wall.proofs.Strains.{field_of, bending_of_curvature}

@@ -1,26 +1,17 @@
 -- The energy of a wall, and how it is bounded by its strains. An energy here is the work of forces and moments in the
 -- strains and curvatures that they belong to, without the half, for each unit of the wall's area: in MPa µm.
 use Rattle.std.specs.Prelude.{ℤ, pos, ◌≤ℤ◌, List, All}
-use Rattle.lam_fraction.specs.Fraction.{ℚ, whole, fraction, ◌+ℚ◌, ◌*ℚ◌, ◌/ℚ◌, ◌≤ℚ◌}
+use Rattle.lam_fraction.specs.Fraction.{ℚ, whole, ◌+ℚ◌, ◌*ℚ◌, ◌/ℚ◌, ◌≤ℚ◌}
 use Rattle.lam_stock.specs.declared.item.Item.{Item}
+use Rattle.lam_stock.specs.declared.item.ItemNo.{ItemNo}
 use Rattle.lam_stock.specs.PlyLaw.{InWall}
+use Rattle.lam_stock.specs.Scale.{scale_of}
+use Rattle.lam_lamina.specs.Work.{work, squares, WorksBetween}
 use Rattle.lam_job.specs.Wall.{wall_thickness}
+use Rattle.lam_job.specs.Schedule.{items_of}
 use Rattle.lam_job.specs.Field.{Field}
-use Rattle.lam_job.specs.Equilibrium.{item_stress, force_sum, moment_sum}
+use Rattle.lam_job.specs.Equilibrium.{force_sum, moment_sum}
 use Rattle.lam_wall.specs.Matrices.{bending_strain}
-
--- the work of a stress in a strain, for each unit of volume
-abbrev pub work : InWall → InWall → ℚ
-work t e = t.x *ℚ e.x +ℚ t.y *ℚ e.y +ℚ t.s *ℚ e.s
-
--- the squares of a strain: ex² + ey² + g²/2, which no turning changes
-abbrev pub squares : InWall → ℚ
-squares e = e.x *ℚ e.x +ℚ e.y *ℚ e.y +ℚ fraction (pos 1) (pos 2) *ℚ (e.s *ℚ e.s)
-
--- the work of an item's layer in each strain lies between floor and q0 times the squares of that strain
-abbrev pub WorksBetween : ℤ → ℤ → Item → Type 0
-WorksBetween floor q0 i = (e : InWall)
-    → (whole floor *ℚ squares e ≤ℚ work (item_stress i e) e) × (work (item_stress i e) e ≤ℚ whole q0 *ℚ squares e)
 
 -- ---- a wall
 
@@ -38,6 +29,12 @@ energy f wall = work (force_sums f wall) f.strain /ℚ whole (pos 4) +ℚ work (
 abbrev pub mean_squares : InWall → InWall → ℚ
 mean_squares e k = squares e +ℚ squares k /ℚ whole (pos 3)
 
+-- the energy lies between floor and q0, each times the thickness of the wall and the mean squares of its strains
+abbrev pub HasEnergyBetween : ℤ → ℤ → List Item → Field → Type 0
+HasEnergyBetween floor q0 wall f =
+    (whole floor *ℚ (whole (wall_thickness wall) *ℚ mean_squares f.strain (bending_strain (wall_thickness wall) f.curvature)) ≤ℚ energy f wall)
+    × (energy f wall ≤ℚ whole q0 *ℚ (whole (wall_thickness wall) *ℚ mean_squares f.strain (bending_strain (wall_thickness wall) f.curvature)))
+
 -- ---- the laws
 
 -- For a maker: a wall of items none of which is softer than floor is nowhere softer than floor itself. Whatever
@@ -46,5 +43,9 @@ mean_squares e k = squares e +ℚ squares k /ℚ whole (pos 3)
 abbrev pub EnergyBetween : Type 0
 EnergyBetween = (floor q0 : ℤ) (wall : List Item) (f : Field)
     → All (λ i. pos 0 ≤ℤ i.lamina.t) wall → All (WorksBetween floor q0) wall
-    → (whole floor *ℚ (whole (wall_thickness wall) *ℚ mean_squares f.strain (bending_strain (wall_thickness wall) f.curvature)) ≤ℚ energy f wall)
-    × (energy f wall ≤ℚ whole q0 *ℚ (whole (wall_thickness wall) *ℚ mean_squares f.strain (bending_strain (wall_thickness wall) f.curvature)))
+    → HasEnergyBetween floor q0 wall f
+
+-- so it is for each wall of a catalogue, between the catalogue's own floor and q0
+abbrev pub CatalogueEnergy : List Item → Type 0
+CatalogueEnergy stock = (numbers : List ItemNo) (f : Field)
+    → HasEnergyBetween (scale_of stock).floor (scale_of stock).q0 (items_of stock numbers) f

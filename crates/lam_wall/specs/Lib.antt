@@ -2,3 +2,4 @@ pub mod Matrices
 pub mod MatrixLaw
 pub mod Energy
 pub mod Form
+pub mod Faces

@@ -1,8 +1,11 @@
 //! The laws of a wall's matrices and of its energy, each the contract of a function that does nothing.
 
-ghost use Rattle.lam_wall.specs.Energy.{EnergyBetween};
-ghost use Rattle.lam_wall.specs.Form.{FieldOnly, FormBetween};
+ghost use Rattle.lam_wall.specs.Energy.{CatalogueEnergy, EnergyBetween};
+ghost use Rattle.lam_wall.specs.Form.{CatalogueField, CatalogueForm, FieldOnly, FormBetween};
 ghost use Rattle.lam_wall.specs.MatrixLaw.{EquilibriumByMatrices, MatricesOnly, SumsByMatrices};
+
+use lam_lamina::layers_work_between;
+use lam_stock::Stock;
 
 /// The matrices of a wall, summed over its plies, give its force and moment sums for every field.
 pub fn sums_by_matrices()
@@ -33,3 +36,32 @@ pub fn form_between()
 pub fn field_only()
     ensures { FieldOnly }
 {}
+
+/// No wall of a catalogue's items is softer than the catalogue's floor says, and none is stiffer than its `q0`:
+/// whatever strains and bending a load gives the wall, the load does at least the work that it would do on one layer
+/// of stiffness floor and of the wall's thickness, and at most that on one of stiffness `q0`.
+pub fn no_wall_is_softer(stock: &Stock)
+    ensures { CatalogueEnergy stock.now }
+{
+    layers_work_between(stock);
+    let _items = stock.items();
+}
+
+/// The form of the matrices of each wall of a catalogue's items lies between the catalogue's floor over its `q0` and 1,
+/// times the mean squares of the strains.
+pub fn no_form_is_softer(stock: &Stock)
+    ensures { CatalogueForm stock.now }
+{
+    layers_work_between(stock);
+    let _items = stock.items();
+    let _scale = stock.scale();
+}
+
+/// Under a load a wall of at least one of a catalogue's items has at most one field.
+pub fn wall_has_one_field(stock: &Stock)
+    ensures { CatalogueField stock.now }
+{
+    layers_work_between(stock);
+    let _items = stock.items();
+    let _scale = stock.scale();
+}

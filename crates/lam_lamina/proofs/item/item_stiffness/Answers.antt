@@ -1,5 +1,4 @@
-use Rattle.std.proofs.Common.{◌≡◌, ◌∙◌, ap, subst, sym}
-use Rattle.lam_stock.specs.declared.item.Kind.TheVariants.{Pair}
+use Rattle.std.proofs.Common.{◌∙◌, ap, subst, sym}
 use Rattle.lam_lamina.specs.Held.{HoldsMatrix}
 use Rattle.lam_lamina.specs.Formulas.{uncoupled}
 use Rattle.lam_lamina.specs.Stiffness.{stiffness_over}
