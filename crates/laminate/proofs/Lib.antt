@@ -11,3 +11,8 @@ pub mod StepFacts
 pub mod OrderFacts
 pub mod Endings
 pub mod AnalysisText
+pub mod TurnedStress
+pub mod MachineNumbers
+pub mod TurnedParts
+pub mod ForceLimits
+pub mod TurningTrials

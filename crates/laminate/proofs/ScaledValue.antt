@@ -39,7 +39,7 @@ over_product : (n k m : ℤ) → pos 0 <ℤ k → pos 0 <ℤ m → fraction n (k
 unfolding fraction ◌/ℚ◌
 over_product n k m p q = ap (λ z. whole n *ℚ z) (inverse-product k m p q (product_positive k m p q))
 
-whole-difference : (m n : ℤ) → whole (m -ℤ n) ≡ whole m -ℚ whole n
+pub whole-difference : (m n : ℤ) → whole (m -ℤ n) ≡ whole m -ℚ whole n
 whole-difference m n =
     from₁ (whole (pos 1)) (sym (whole-sum (m -ℤ n) n) ∙ ap whole (omega (arith, ints))) (rest (whole (m -ℤ n)) (whole m) (whole n))
   where

@@ -17,7 +17,7 @@ use Rattle.laminate.specs.Answers.{IsContent}
 use Rattle.laminate.specs.Faults.{fault_status}
 use Rattle.laminate.specs.Job.{JobNumbers, job_of}
 use Rattle.laminate.specs.Steps.{Analyses, Gives}
-use Rattle.laminate.specs.Request.{Request, catalogue_or_fault, forces_in_range, item_named, loaded, or_unbuilt, plain_ply, request_of, then_step, within_length}
+use Rattle.laminate.specs.Request.{Request, catalogue_or_fault, forces_in_range, item_named, loaded, or_unbuilt, request_of, single_ply, then_step, within_length}
 
 -- ---- a file's length
 
@@ -64,7 +64,7 @@ abbrev after_ply : List Item → JobNumbers → Item → Result Request Fault
 after_ply items j i = loaded items i j
 
 abbrev after_job : List ℕ → List Item → JobNumbers → Result Request Fault
-after_job schedule items j = then_step (or_unbuilt (plain_ply (item_named schedule items))) (after_ply items j)
+after_job schedule items j = then_step (or_unbuilt (single_ply (item_named schedule items))) (after_ply items j)
 
 abbrev after_stock : List ℕ → List ℕ → List Item → Result Request Fault
 after_stock job schedule items = then_step (or_unbuilt (job_of job)) (after_job schedule items)
@@ -127,23 +127,23 @@ bad_job job catalogue schedule items fault s e f =
 
 at_ply : (job catalogue schedule : List ℕ) (items : List Item) (j : JobNumbers) → Short job catalogue
     → catalogue_or_fault (stock_of catalogue) ≡ Ok items → or_unbuilt (job_of job) ≡ Ok j
-    → request_of job catalogue schedule ≡ then_step (or_unbuilt (plain_ply (item_named schedule items))) (after_ply items j)
+    → request_of job catalogue schedule ≡ then_step (or_unbuilt (single_ply (item_named schedule items))) (after_ply items j)
 at_ply job catalogue schedule items j s e f =
     at_job job catalogue schedule items s e ∙ then_ok (or_unbuilt (job_of job)) j (after_job schedule items) f
 
 pub bad_schedule : (job catalogue schedule : List ℕ) (items : List Item) (j : JobNumbers) → Short job catalogue
     → catalogue_or_fault (stock_of catalogue) ≡ Ok items → or_unbuilt (job_of job) ≡ Ok j
-    → plain_ply (item_named schedule items) ≡ None → request_of job catalogue schedule ≡ Err Unbuilt
+    → single_ply (item_named schedule items) ≡ None → request_of job catalogue schedule ≡ Err Unbuilt
 bad_schedule job catalogue schedule items j s e f none =
     at_ply job catalogue schedule items j s e f
-    ∙ then_err (or_unbuilt (plain_ply (item_named schedule items))) Unbuilt (after_ply items j) (ap or_unbuilt none)
+    ∙ then_err (or_unbuilt (single_ply (item_named schedule items))) Unbuilt (after_ply items j) (ap or_unbuilt none)
 
 at_load : (job catalogue schedule : List ℕ) (items : List Item) (j : JobNumbers) (i : Item) → Short job catalogue
     → catalogue_or_fault (stock_of catalogue) ≡ Ok items → or_unbuilt (job_of job) ≡ Ok j
-    → plain_ply (item_named schedule items) ≡ Some i → request_of job catalogue schedule ≡ loaded items i j
+    → single_ply (item_named schedule items) ≡ Some i → request_of job catalogue schedule ≡ loaded items i j
 at_load job catalogue schedule items j i s e f some =
     at_ply job catalogue schedule items j s e f
-    ∙ then_ok (or_unbuilt (plain_ply (item_named schedule items))) i (after_ply items j) (ap or_unbuilt some)
+    ∙ then_ok (or_unbuilt (single_ply (item_named schedule items))) i (after_ply items j) (ap or_unbuilt some)
 
 abbrev granted_if : Bool → Request → Result Request Fault
 granted_if b q = if b then Ok q else Err Unbuilt
@@ -159,7 +159,7 @@ if_false false q e = refl
 pub out_of_range : (job catalogue schedule : List ℕ) (items : List Item) (j : JobNumbers) (i : Item) (floor : ℤ)
     → Short job catalogue
     → catalogue_or_fault (stock_of catalogue) ≡ Ok items → or_unbuilt (job_of job) ≡ Ok j
-    → plain_ply (item_named schedule items) ≡ Some i → floor ≡ (scale_of items).floor
+    → single_ply (item_named schedule items) ≡ Some i → floor ≡ (scale_of items).floor
     → forces_in_range floor i.lamina.t j ≡ false → request_of job catalogue schedule ≡ Err Unbuilt
 out_of_range job catalogue schedule items j i floor s e f some at out =
     at_load job catalogue schedule items j i s e f some
@@ -169,7 +169,7 @@ out_of_range job catalogue schedule items j i floor s e f some at out =
 pub granted : (job catalogue schedule : List ℕ) (items : List Item) (j : JobNumbers) (i : Item) (floor : ℤ)
     → Short job catalogue
     → catalogue_or_fault (stock_of catalogue) ≡ Ok items → or_unbuilt (job_of job) ≡ Ok j
-    → plain_ply (item_named schedule items) ≡ Some i → floor ≡ (scale_of items).floor
+    → single_ply (item_named schedule items) ≡ Some i → floor ≡ (scale_of items).floor
     → forces_in_range floor i.lamina.t j ≡ true → request_of job catalogue schedule ≡ Ok (record { item = i; job = j })
 granted job catalogue schedule items j i floor s e f some at inside =
     at_load job catalogue schedule items j i s e f some
@@ -225,8 +225,8 @@ request_refuses job catalogue schedule =
     (length_refuses source.Catalogue catalogue (nat_le (length catalogue) 1048576)) (λ _.
     then_refuses (catalogue_or_fault (stock_of catalogue)) (after_stock job schedule) (stock_refuses (stock_of catalogue)) (λ items.
     then_refuses (or_unbuilt (job_of job)) (after_job schedule items) (unbuilt_refuses (job_of job)) (λ j.
-    then_refuses (or_unbuilt (plain_ply (item_named schedule items))) (after_ply items j)
-    (unbuilt_refuses (plain_ply (item_named schedule items))) (λ i.
+    then_refuses (or_unbuilt (single_ply (item_named schedule items))) (after_ply items j)
+    (unbuilt_refuses (single_ply (item_named schedule items))) (λ i.
     load_refuses (forces_in_range (scale_of items).floor i.lamina.t j) (record { item = i; job = j })))))))
 
 pub refusal_status : (job catalogue schedule : List ℕ) (fault : Fault) → request_of job catalogue schedule ≡ Err fault

@@ -1,5 +1,5 @@
 -- What a job's text asks for, as far as it is read today.
-use Rattle.std.specs.Prelude.{ℕ, ℤ, pos, negsuc, List, [], ◌∷◌, Bool, true, false, ◌||◌, ◌&&◌, Option, Some, None, codes, if◌then◌else◌, int_le, bytes_eq}
+use Rattle.std.specs.Prelude.{ℕ, ◌≤◌, unsigned_abs, ℤ, pos, negsuc, List, [], ◌∷◌, Bool, true, false, ◌||◌, ◌&&◌, Option, Some, None, codes, if◌then◌else◌, int_le, bytes_eq}
 use Rattle.std.specs.Str.{is_utf8}
 use Rattle.toml.specs.Data.{Data, integer, string, array, table, Items, no_items, item, Members, no_members, member, get_member}
 use Rattle.toml.specs.Parse.{parse_document}
@@ -10,6 +10,12 @@ pub record JobNumbers : Type 0 where
   pub ny : ℤ
   pub nxy : ℤ
   pub factor : ℤ
+
+-- each force is at most 10⁹ N/m in size
+pub record ForcesWithin (j : JobNumbers) : Type 0 where
+  pub nx : unsigned_abs j.nx ≤ 1000000000
+  pub ny : unsigned_abs j.ny ≤ 1000000000
+  pub nxy : unsigned_abs j.nxy ≤ 1000000000
 
 -- the key is one of these
 abbrev pub is_among : List (List ℕ) → List ℕ → Bool

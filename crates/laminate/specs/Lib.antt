@@ -5,6 +5,7 @@ pub mod Spelled
 pub mod Read
 pub mod ScaledCriterion
 pub mod StrengthRatio
+pub mod Turning
 pub mod Faults
 pub mod Request
 pub mod Answers

@@ -2,9 +2,7 @@
 -- refuse it. The causes are looked for in the order of the steps: the length of the job, that of the catalogue, the
 -- catalogue's content, the job's content, the schedule word, the range of loads.
 use Rattle.std.specs.Prelude.{ℕ, ◌≤◌, Bool, ◌&&◌, nat_le, List, length, ℤ, pos, negsuc, ◌*ℤ◌, int_le, Option, Some, None, Result, Ok, Err, if◌then◌else◌, slice_get}
-use Rattle.std.specs.Ordering.{int_eq}
-use Rattle.lam_fraction.specs.Fraction.{whole, fraction}
-use Rattle.lam_direction.specs.Circle.{CirclePoint}
+use Rattle.lam_fraction.specs.Fraction.{whole}
 use Rattle.lam_stock.specs.declared.fault.StockFault.{StockFault}
 use Rattle.lam_stock.specs.declared.item.Item.{Item}
 use Rattle.lam_stock.specs.Catalogue.{stock_of}
@@ -17,6 +15,7 @@ use Rattle.laminate.specs.declared.fault.Fault.TheVariants.{TooLong, Catalogue, 
 use Rattle.laminate.specs.declared.fault.Source.{Source}
 use Rattle.laminate.specs.declared.fault.Source.TheVariants as source
 use Rattle.laminate.specs.Job.{JobNumbers, job_of}
+use Rattle.laminate.specs.Turning.{stress_in_ply}
 
 -- a step after another, which is taken where the first isn't refused: so the first refusal is the one that is answered
 abbrev pub then_step : {A B : Type 0} → Result A Fault → (A → Result B Fault) → Result B Fault
@@ -44,14 +43,10 @@ item_at items (Some k) = slice_get items k
 abbrev pub item_named : List ℕ → List Item → Option Item
 item_named name items = item_at items (place_of name items)
 
--- the direction of the wall's axis
-abbrev pub is_axial : CirclePoint → Bool
-is_axial d = int_eq d.p (pos 1) && int_eq d.q (pos 0) && int_eq d.h (pos 1)
-
--- an item where it is a ply along the wall's axis
-abbrev pub plain_ply : Option Item → Option Item
-plain_ply None = None
-plain_ply (Some i) = if is_ply i.kind && is_axial i.dir then Some i else None
+-- an item where it is a single ply, and no pair
+abbrev pub single_ply : Option Item → Option Item
+single_ply None = None
+single_ply (Some i) = if is_ply i.kind then Some i else None
 
 -- a force in N/m is in range: 4 and -4 times it are at most the catalogue's floor, in MPa, times the thickness, in µm
 abbrev pub force_in_range : ℤ → ℤ → ℤ → Bool
@@ -79,16 +74,12 @@ request_of job catalogue schedule =
     then_step (within_length source.Catalogue catalogue) (λ _.
     then_step (catalogue_or_fault (stock_of catalogue)) (λ items.
     then_step (or_unbuilt (job_of job)) (λ j.
-    then_step (or_unbuilt (plain_ply (item_named schedule items))) (λ i.
+    then_step (or_unbuilt (single_ply (item_named schedule items))) (λ i.
     loaded items i j)))))
 
--- the stress in the ply, in MPa: its forces in N/m over its thickness in µm
+-- the stress in the ply, in MPa: that of the wall, in the axes of the ply
 abbrev pub stress_of : Request → InPly
-stress_of q = record {
-  along = fraction q.job.nx q.item.lamina.t;
-  across = fraction q.job.ny q.item.lamina.t;
-  shear = fraction q.job.nxy q.item.lamina.t;
-}
+stress_of q = stress_in_ply q.item.dir q.job.nx q.job.ny q.job.nxy q.item.lamina.t
 
 -- a printed ratio in thousandths is one that the ply has
 pub record IsRatioOf (q : Request) (thousandths : ℕ) : Type 0 where

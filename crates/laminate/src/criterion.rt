@@ -5,7 +5,7 @@
 //! the value is (f - 1)/4096, so that every term is of moderate size. A step whose number leaves the
 //! enclosures' range answers None, and the factor then isn't met.
 
-ghost use Rattle.std.specs.Prelude.{◌≡◌, ◌≤◌, ◌≤ℤ◌, ◌<ℤ◌, ◌-ℤ◌, pos, IfSome, IsTrue};
+ghost use Rattle.std.specs.Prelude.{◌≡◌, ◌^◌, ◌/◌, ◌≤◌, ◌≤ℤ◌, ◌<ℤ◌, ◌-ℤ◌, pos, IfSome, IsTrue};
 ghost use Rattle.lam_fraction.specs.Fraction.{ℚ, whole};
 ghost use Rattle.lam_number.specs.Encloses.{Encloses};
 ghost use Rattle.lam_stock.specs.PlyLaw.{InPly};
@@ -132,10 +132,11 @@ fn value<N: Enclosure>(by: &Coefficients<N>, y: &Utilisation<N>) -> Option<N>
     difference(sum(sum(along, across)?, sum(mixed, shear)?)?, by.one)
 }
 
-/// The margin of a verdict: 2⁻³⁶ of U, at least.
+/// The margin of a verdict: 2⁻³⁶ of U, rounded down.
 fn margin(scale: u32) -> i64
     requires { scale ≤ 60 }
-    ensures { pos 0 ≤ℤ result }
+    ensures value { result ≡ pos (2 ^ scale / 2 ^ 36) }
+    ensures least { pos 0 ≤ℤ result }
 {
     (unit(scale) >> 36) as i64
 }

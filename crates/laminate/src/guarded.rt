@@ -1,6 +1,6 @@
 //! Calls that test their condition first, and answer None where it isn't met.
 
-ghost use Rattle.std.specs.Prelude.{◌≡◌, ◌^◌, ◌≤◌, ◌*ℤ◌, ◌<ℤ◌, pos, IfSome, FitsSigned};
+ghost use Rattle.std.specs.Prelude.{◌≡◌, ◌+◌, ◌*◌, ◌^◌, ◌≤◌, ◌*ℤ◌, ◌<ℤ◌, pos, unsigned_abs, IfSome, IsSome, FitsSigned};
 ghost use Rattle.std.specs.Int.{w128};
 ghost use Rattle.lam_fraction.specs.Fraction.{ℚ, fraction, ◌+ℚ◌, ◌-ℚ◌, ◌*ℚ◌};
 ghost use Rattle.lam_number.specs.Encloses.{Encloses};
@@ -45,6 +45,7 @@ pub fn unit(scale: u32) -> u128
 pub fn times(a: i128, b: i128) -> Option<i128>
     ensures value { IfSome result (λ product. product ≡ a *ℤ b) }
     ensures fits { IfSome result (λ product. FitsSigned w128 product) }
+    ensures some { FitsSigned w128 (a *ℤ b) → IsSome result }
 {
     a.checked_mul(b)
 }
@@ -53,6 +54,7 @@ pub fn times(a: i128, b: i128) -> Option<i128>
 pub fn ratio<N: Enclosure>(num: i128, den: i128) -> Option<N>
     ensures positive { IfSome result (λ _. pos 0 <ℤ den) }
     ensures held { IfSome result (λ z. Encloses N.SCALE (N.low_end z) (N.high_end z) (fraction num den)) }
+    ensures some { pos 0 <ℤ den → unsigned_abs den ≤ 2 ^ 66 → unsigned_abs num ≤ 2 ^ 66 → unsigned_abs num ≤ 6 * unsigned_abs den → IsSome result }
 {
     let size = num.unsigned_abs();
     let over = den.unsigned_abs();
@@ -65,7 +67,8 @@ pub fn ratio<N: Enclosure>(num: i128, den: i128) -> Option<N>
 
 /// The enclosure of a sum.
 pub fn sum<N: Enclosure>(x: N, y: N) -> Option<N>
-    ensures { IfSome result (λ z. (u v : ℚ) → Encloses N.SCALE (N.low_end x) (N.high_end x) u → Encloses N.SCALE (N.low_end y) (N.high_end y) v → Encloses N.SCALE (N.low_end z) (N.high_end z) (u +ℚ v)) }
+    ensures held { IfSome result (λ z. (u v : ℚ) → Encloses N.SCALE (N.low_end x) (N.high_end x) u → Encloses N.SCALE (N.low_end y) (N.high_end y) v → Encloses N.SCALE (N.low_end z) (N.high_end z) (u +ℚ v)) }
+    ensures some { reach (N.low_end x) (N.high_end x) + reach (N.low_end y) (N.high_end y) ≤ 6 * 2 ^ N.SCALE → IsSome result }
 {
     if reach_of(x) + reach_of(y) <= 6 * unit(N::SCALE) {
         Some(x.add(y))
@@ -76,7 +79,8 @@ pub fn sum<N: Enclosure>(x: N, y: N) -> Option<N>
 
 /// The enclosure of a difference.
 pub fn difference<N: Enclosure>(x: N, y: N) -> Option<N>
-    ensures { IfSome result (λ z. (u v : ℚ) → Encloses N.SCALE (N.low_end x) (N.high_end x) u → Encloses N.SCALE (N.low_end y) (N.high_end y) v → Encloses N.SCALE (N.low_end z) (N.high_end z) (u -ℚ v)) }
+    ensures held { IfSome result (λ z. (u v : ℚ) → Encloses N.SCALE (N.low_end x) (N.high_end x) u → Encloses N.SCALE (N.low_end y) (N.high_end y) v → Encloses N.SCALE (N.low_end z) (N.high_end z) (u -ℚ v)) }
+    ensures some { reach (N.low_end x) (N.high_end x) + reach (N.low_end y) (N.high_end y) ≤ 6 * 2 ^ N.SCALE → IsSome result }
 {
     if reach_of(x) + reach_of(y) <= 6 * unit(N::SCALE) {
         Some(x.sub(y))
@@ -87,7 +91,8 @@ pub fn difference<N: Enclosure>(x: N, y: N) -> Option<N>
 
 /// The enclosure of a product.
 pub fn product<N: Enclosure>(x: N, y: N) -> Option<N>
-    ensures { IfSome result (λ z. (u v : ℚ) → Encloses N.SCALE (N.low_end x) (N.high_end x) u → Encloses N.SCALE (N.low_end y) (N.high_end y) v → Encloses N.SCALE (N.low_end z) (N.high_end z) (u *ℚ v)) }
+    ensures held { IfSome result (λ z. (u v : ℚ) → Encloses N.SCALE (N.low_end x) (N.high_end x) u → Encloses N.SCALE (N.low_end y) (N.high_end y) v → Encloses N.SCALE (N.low_end z) (N.high_end z) (u *ℚ v)) }
+    ensures some { reach (N.low_end x) (N.high_end x) * reach (N.low_end y) (N.high_end y) ≤ 6 * (2 ^ N.SCALE * 2 ^ N.SCALE) → IsSome result }
 {
     if reach_of(x) * reach_of(y) <= 6 * (unit(N::SCALE) * unit(N::SCALE)) {
         Some(x.mul(y))
@@ -98,7 +103,8 @@ pub fn product<N: Enclosure>(x: N, y: N) -> Option<N>
 
 /// The enclosure of a square.
 pub fn square<N: Enclosure>(x: N) -> Option<N>
-    ensures { IfSome result (λ z. (u : ℚ) → Encloses N.SCALE (N.low_end x) (N.high_end x) u → Encloses N.SCALE (N.low_end z) (N.high_end z) (u *ℚ u)) }
+    ensures held { IfSome result (λ z. (u : ℚ) → Encloses N.SCALE (N.low_end x) (N.high_end x) u → Encloses N.SCALE (N.low_end z) (N.high_end z) (u *ℚ u)) }
+    ensures some { reach (N.low_end x) (N.high_end x) ≤ 2 * 2 ^ N.SCALE → IsSome result }
 {
     if reach_of(x) <= 2 * unit(N::SCALE) {
         Some(x.square())

@@ -12,6 +12,7 @@ mod ply_stress;
 mod status;
 mod steps;
 mod top;
+mod turning;
 mod words;
 
 use crate::status::Status;

@@ -4,16 +4,16 @@ ghost use Rattle.std.specs.Prelude.{◌≡◌, ◌≤◌, ℕ, List, Ok, Some, I
 ghost use Rattle.std.specs.Result.{result_map_both};
 ghost use Rattle.lam_stock.specs.Catalogue.{stock_of as stock_spec};
 ghost use Rattle.lam_stock.specs.Stock.{WithinLimits};
-ghost use Rattle.laminate.specs.Job.{job_of as job_spec};
+ghost use Rattle.laminate.specs.Job.{ForcesWithin, job_of as job_spec};
 ghost use Rattle.laminate.specs.Read.{numbers};
-ghost use Rattle.laminate.specs.Request.{IsRatioOf, catalogue_or_fault, force_in_range, forces_in_range, is_axial as axial, item_named, or_unbuilt, plain_ply, request_of, within_length};
+ghost use Rattle.laminate.specs.Request.{IsRatioOf, catalogue_or_fault, force_in_range, forces_in_range, item_named, or_unbuilt, request_of, single_ply, within_length};
 ghost use Rattle.laminate.specs.Steps.{Analyses, AnswersOrder, Gives, Takes};
 
 use crate::analysis::{Analysis, Thousandths};
 use crate::criterion::printed_ratio;
 use crate::fault::{Fault, Source, Stop};
 use crate::job::{Job, JobError, read_job};
-use crate::ply_stress::PlyStress;
+use crate::turning::stress_in_ply;
 use lam_number::Fix;
 use lam_outside::{Bytes, Files, TakeFault, Taken};
 use lam_stock::{Item, Kind, Scale, Stock, StockError, read_stock};
@@ -108,13 +108,13 @@ fn job_of(alloc: Global, bytes: &[u8]) -> Result<Job, Stop>
     }
 }
 
-/// The ply that the schedule names, where it lies along the wall's axis.
+/// The item that the schedule names, where it is a single ply.
 fn ply_of<'a>(stock: &'a Stock, schedule: &str) -> Option<&'a Item>
-    ensures ply { option_map (λ i. i.now) result ≡ plain_ply (item_named schedule.now stock.now) }
+    ensures ply { option_map (λ i. i.now) result ≡ single_ply (item_named schedule.now stock.now) }
     ensures limits { IfSome result (λ i. WithinLimits i.now) }
 {
     let item = item_of(stock, schedule)?;
-    if item.kind == Kind::Ply && is_axial(item) {
+    if item.kind == Kind::Ply {
         Some(item)
     } else {
         None
@@ -130,13 +130,6 @@ fn item_of<'a>(stock: &'a Stock, name: &str) -> Option<&'a Item>
         Some(number) => Some(&stock.items()[number.0 as usize]),
         None => None,
     }
-}
-
-/// Whether the fibres of an item lie along the wall's axis.
-fn is_axial(item: &Item) -> bool
-    ensures { result ≡ axial item.now.dir }
-{
-    item.dir.p() == 1 && item.dir.q() == 0 && item.dir.h() == 1
 }
 
 /// Whether each force is at most a quarter of the stock's floor stiffness times the thickness.
@@ -176,16 +169,12 @@ fn product(a: i64, b: i64) -> i128
 
 /// The analysis of a ply under the forces of a job.
 fn analysis_of(item: &Item, job: &Job) -> Analysis
-    requires { WithinLimits item.now }
+    requires limits { WithinLimits item.now }
+    requires forces { ForcesWithin (numbers job.now) }
     ensures cost { result.cost ≡ item.now.cost }
     ensures ratio { IsRatioOf (record { item = item.now; job = numbers job.now }) result.ratio.0 }
 {
-    let stress = PlyStress {
-        along: job.nx,
-        across: job.ny,
-        shear: job.nxy,
-        over: item.lamina.t,
-    };
+    let stress = stress_in_ply(&item.dir, job.nx, job.ny, job.nxy, item.lamina.t);
     Analysis {
         cost: item.cost,
         ratio: Thousandths(printed_ratio::<Fix<60>>(&item.lamina, &stress)),

@@ -9,6 +9,9 @@ const MAT: &str = "mat,ply,10000,10000,0,5000,100000,100000,100000,100000,50000,
 const WEAK_IN_TENSION: &str =
     "mat,ply,10000,10000,0,5000,100000,100000,100000,200000,50000,0,5000,1,0,1,10\n";
 
+const PAIR: &str =
+    "both,pair,10000,10000,0,5000,100000,100000,100000,100000,50000,0,5000,3,4,5,10\n";
+
 const STIFF: &str =
     "mat,ply,400000,400000,0,200000,5000000,5000000,5000000,5000000,5000000,0,20000,1,0,1,10\n";
 
@@ -53,6 +56,10 @@ fn analysis(alloc: Global, forces: &str, item: &str) -> Result<(Status, Vec<u8>)
     )
 }
 
+fn analysis_with(alloc: Global, ratio: &str) -> Result<String, AllocError> {
+    format!(in alloc; "laminate analysis 1\ncost 10\nrules kept\nratio 1 1 {ratio}\nend\n")
+}
+
 #[test]
 fn a_ratio_is_printed_rounded_down_and_a_tie_one_below(rt: HostRuntime) -> Result<(), Fail> {
     let rows = [
@@ -67,11 +74,42 @@ fn a_ratio_is_printed_rounded_down_and_a_tie_one_below(rt: HostRuntime) -> Resul
     ];
     for (forces, item, ratio) in rows {
         let (status, text) = analysis(rt.alloc(), forces, item)?;
-        let expected = format!(in rt.alloc();
-            "laminate analysis 1\ncost 10\nrules kept\nratio 1 1 {ratio}\nend\n"
-        )?;
+        let expected = analysis_with(rt.alloc(), ratio)?;
         assert_eq!(rt; status, Status::Done);
         assert_eq!(rt; text.as_slice(), expected.as_bytes());
+    }
+    Ok(())
+}
+
+/// The strengths of a mat, and of ones that are stronger in compression across and stronger along.
+const EVEN: &str = "100000,100000,100000,100000,50000";
+
+const STRONG_PRESSED_ACROSS: &str = "100000,100000,100000,200000,50000";
+
+const STRONG_ALONG: &str = "200000,200000,100000,100000,50000";
+
+#[test]
+fn a_ply_bears_the_stress_in_its_own_axes(rt: HostRuntime) -> Result<(), Fail> {
+    let rows = [
+        ("ny = 90000", EVEN, "3,4,5", "4.596"),
+        ("ny = 90000", EVEN, "3,-4,5", "4.596"),
+        ("nxy = 90000", STRONG_PRESSED_ACROSS, "3,4,5", "5.123"),
+        ("nxy = 90000", STRONG_PRESSED_ACROSS, "3,-4,5", "3.551"),
+        ("ny = 90000", STRONG_ALONG, "0,1,1", "11.111"),
+        ("nx = 90000", STRONG_ALONG, "0,1,1", "5.555"),
+    ];
+    for (forces, strengths, direction, ratio) in rows {
+        let item = format!(in rt.alloc();
+            "mat,ply,10000,10000,0,5000,{strengths},0,5000,{direction},10\n"
+        )?;
+        let (status, text) = analysis(rt.alloc(), forces, item.as_str())?;
+        let expected = analysis_with(rt.alloc(), ratio)?;
+        assert_eq!(rt; status, Status::Done);
+        assert_eq!(rt;
+            text.as_slice(),
+            expected.as_bytes(),
+            "{forces}, {direction}"
+        );
     }
     Ok(())
 }
@@ -81,8 +119,8 @@ fn each_fault_has_its_line_and_its_status(rt: HostRuntime) -> Result<(), Fail> {
     let alloc = rt.alloc();
     let usage: &[&str] = &[];
     let job = job_with(alloc, "ny = 90000")?;
-    let catalogue = format!(in alloc; "{HEADER}{MAT}")?;
-    let rows: [(&[&str], Status, &str); 7] = [
+    let catalogue = format!(in alloc; "{HEADER}{MAT}{PAIR}")?;
+    let rows: [(&[&str], Status, &str); 8] = [
         (usage, Status::Usage, USAGE),
         (&["design", "job", "catalogue", "mat"], Status::Usage, USAGE),
         (
@@ -103,6 +141,11 @@ fn each_fault_has_its_line_and_its_status(rt: HostRuntime) -> Result<(), Fail> {
         ),
         (
             &["analyse", "job", "catalogue", "mut"],
+            Status::Refused,
+            "refused unbuilt\n",
+        ),
+        (
+            &["analyse", "job", "catalogue", "both"],
             Status::Refused,
             "refused unbuilt\n",
         ),

@@ -7,5 +7,5 @@ pub returns : goal.returns
 unfolding axis_value
 returns g c =
     IfSome-map c.sum.result _ _
-    (λ z h a b u p q r. h (a *ℚ u) (b *ℚ (u *ℚ u)) (c.in_ok-product.ensures a u p r) (c.in_ok-product-2.ensures b (u *ℚ u) q (c.in_ok-square.ensures u r)))
-    c.sum.ensures
+    (λ z h a b u p q r. h (a *ℚ u) (b *ℚ (u *ℚ u)) (c.in_ok-product.ensures.held a u p r) (c.in_ok-product-2.ensures.held b (u *ℚ u) q (c.in_ok-square.ensures.held u r)))
+    c.sum.ensures.held

@@ -10,5 +10,5 @@ returns-in-Below g c = λ _.
     let s = c.args.stress.now in
     let r = c.args.thousandths in
     met g.N.Enclosure.SCALE _ _ l s r c.requires.strengths
-    (below_margin _ _ (record { sfits = c.margin.type_inv }) c.margin.ensures (c.in-Below.ensures.below.0 refl))
+    (below_margin _ _ (record { sfits = c.margin.type_inv }) c.margin.ensures.least (c.in-Below.ensures.below.0 refl))
     (c.in-Some-value.ensures (terms_of l) (scaled_of l s r) c.requires.held c.in-Some.ensures)

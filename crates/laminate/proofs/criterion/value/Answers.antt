@@ -12,11 +12,11 @@ returns g c =
     let across = axis_value k.across k.across_square u.across in
     let mixed = k.mixed *ℚ (u.along *ℚ u.across) in
     let shear = k.shear_square *ℚ (u.shear *ℚ u.shear) in
-    let axes = c.in_ok-sum.ensures along across
+    let axes = c.in_ok-sum.ensures.held along across
     (c.in_ok-along.ensures k.along k.along_square u.along p.along p.along_square q.along)
     (c.in_ok-across.ensures k.across k.across_square u.across p.across p.across_square q.across) in
-    let rest = c.in_ok-sum-2.ensures mixed shear
-    (c.in_ok-mixed.ensures k.mixed (u.along *ℚ u.across) p.mixed (c.in_ok-product.ensures u.along u.across q.along q.across))
-    (c.in_ok-shear.ensures k.shear_square (u.shear *ℚ u.shear) p.shear_square (c.in_ok-square.ensures u.shear q.shear)) in
-    h (along +ℚ across +ℚ (mixed +ℚ shear)) k.one (c.in_ok-sum-3.ensures (along +ℚ across) (mixed +ℚ shear) axes rest) p.one)
-    c.difference.ensures
+    let rest = c.in_ok-sum-2.ensures.held mixed shear
+    (c.in_ok-mixed.ensures.held k.mixed (u.along *ℚ u.across) p.mixed (c.in_ok-product.ensures.held u.along u.across q.along q.across))
+    (c.in_ok-shear.ensures.held k.shear_square (u.shear *ℚ u.shear) p.shear_square (c.in_ok-square.ensures.held u.shear q.shear)) in
+    h (along +ℚ across +ℚ (mixed +ℚ shear)) k.one (c.in_ok-sum-3.ensures.held (along +ℚ across) (mixed +ℚ shear) axes rest) p.one)
+    c.difference.ensures.held

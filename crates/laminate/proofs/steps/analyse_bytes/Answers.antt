@@ -1,6 +1,7 @@
 use Rattle.std.proofs.Common.{sym, ap, ◌∙◌}
 use Rattle.lam_stock.specs.declared.scale.Scale.{Scale}
 use Rattle.laminate.specs.Read.{numbers}
+use Rattle.laminate.proofs.ForceLimits.{forces_within}
 use Rattle.laminate.proofs.StepFacts.{bad_schedule, granted, job_stops, out_of_range, stock_stops}
 use Rattle.laminate.proofs.steps.analyse_bytes.Goals as goal
 
@@ -19,6 +20,9 @@ returns-in-None c =
     bad_schedule c.args.job.now c.args.catalogue.now c.args.schedule.now c.in-Ok.stock (numbers c.in-Ok-job_of.job)
     (record { job_is = c.requires.job; catalogue_is = c.requires.catalogue }) c.in-Ok.ensures c.in-Ok-job_of.ensures
     (sym c.in-None.ensures.ply)
+
+pub analysis_of-requires-clause-forces : goal.analysis_of-requires-clause-forces
+analysis_of-requires-clause-forces c = forces_within c.args.job.now (numbers c.in-Ok-job_of.job) c.in-Ok-job_of.ensures
 
 pub returns-then-are_in_range : goal.returns-then-are_in_range
 returns-then-are_in_range c = (
