@@ -22,3 +22,9 @@ pub mod ThicknessSteps
 pub mod FacePlaces
 pub mod RangeSteps
 pub mod CatalogueWalls
+pub mod Gathered
+pub mod Moments
+pub mod ShareParts
+pub mod LaidPly
+pub mod LaidWall
+pub mod Assembled

@@ -2,7 +2,7 @@
 use Rattle.std.proofs.Common.{◌≡◌, refl, sym, ◌∙◌, ap, ℤ, pos, ◌*ℤ◌, ◌<ℤ◌, List, arith}
 use Rattle.std.proofs.lemmas.Int.{ints}
 use Rattle.lam_fraction.specs.WholeNumbers.{product_positive}
-use Rattle.lam_fraction.specs.Fraction.{ℚ, whole, ◌+ℚ◌, ◌*ℚ◌, ◌-ℚ◌, ◌/ℚ◌}
+use Rattle.lam_fraction.specs.Fraction.{ℚ, whole, ◌+ℚ◌, ◌*ℚ◌}
 use Rattle.lam_fraction.proofs.Expression.{int, ◌⊕◌, ◌⊗◌}
 use Rattle.lam_fraction.proofs.Solver.{◌≐◌}
 use Rattle.lam_fraction.proofs.Rationals.{solve, same_without_factor}

@@ -6,10 +6,11 @@ use Rattle.lam_fraction.specs.Quotient.{of_two, on_one, on_two}
 use Rattle.lam_fraction.proofs.Rationals.{antisym}
 use Rattle.lam_stock.specs.declared.item.Item.{Item}
 use Rattle.lam_stock.specs.declared.item.Kind.TheVariants.{Ply}
-use Rattle.lam_stock.specs.PlyLaw.{cosine, sine, reduced_11, reduced_12, reduced_22, reduced_66}
+use Rattle.lam_stock.specs.PlyLaw.{InWall, cosine, sine, reduced_11, reduced_12, reduced_22, reduced_66}
 use Rattle.lam_lamina.specs.Stiffness.{Symmetric}
+use Rattle.lam_lamina.specs.Work.{work, squares}
 use Rattle.lam_job.specs.Field.{Field}
-use Rattle.lam_job.specs.Equilibrium.{force_sum, moment_sum}
+use Rattle.lam_job.specs.Equilibrium.{item_stress, force_sum, moment_sum}
 use Rattle.lam_wall.specs.Matrices.{matrices}
 use Rattle.lam_wall.specs.Energy.{energy}
 
@@ -67,3 +68,18 @@ hoop_moment = antisym (record { le = refl }) (record { le = refl })
 work_of_the_load : energy field wall ≡ fraction (pos 7200000) (pos 11000)
 unfolding ply_of wall field cosine sine reduced_11 reduced_12 reduced_22 reduced_66 whole fraction class_of ◌+ℚ◌ ◌-ℚ◌ ◌*ℚ◌ ◌/ℚ◌ opposite inverse is_at_most on_one on_two of_two
 work_of_the_load = antisym (record { le = refl }) (record { le = refl })
+
+-- ---- one layer, strained by 1, 2 and 4 thousandths
+
+unfoldable strained : InWall
+strained = record { x = fraction (pos 1) (pos 1000); y = fraction (pos 2) (pos 1000); s = fraction (pos 4) (pos 1000) }
+
+-- the square of the shear counts half
+squares_of_a_strain : squares strained ≡ fraction (pos 13) (pos 1000000)
+unfolding strained whole fraction class_of ◌+ℚ◌ ◌-ℚ◌ ◌*ℚ◌ ◌/ℚ◌ opposite inverse is_at_most on_one on_two of_two
+squares_of_a_strain = antisym (record { le = refl }) (record { le = refl })
+
+-- the stresses 10, 20 and 20 MPa do 0.13 MPa of work
+work_of_a_layer : work (item_stress (ply_of (pos 10000) (pos 5000)) strained) strained ≡ fraction (pos 13) (pos 100)
+unfolding ply_of strained cosine sine reduced_11 reduced_12 reduced_22 reduced_66 whole fraction class_of ◌+ℚ◌ ◌-ℚ◌ ◌*ℚ◌ ◌/ℚ◌ opposite inverse is_at_most on_one on_two of_two
+work_of_a_layer = antisym (record { le = refl }) (record { le = refl })
