@@ -56,7 +56,8 @@ fn coefficients_of<N: Enclosure>(lamina: &Lamina) -> Option<Coefficients<N>>
 
 /// The coefficient of y/16 along an axis: (C - T)/(256 m), with m the lesser of the strengths T and C.
 fn linear<N: Enclosure>(tension: i64, compression: i64) -> Option<N>
-    ensures { IfSome result (λ z. Encloses N.SCALE (N.low_end z) (N.high_end z) (linear_coefficient tension compression)) }
+    ensures { IfSome result (λ z.
+        Encloses N.SCALE (N.low_end z) (N.high_end z) (linear_coefficient tension compression)) }
 {
     let lesser = i128::from(tension.min(compression));
     ratio(excess(compression, tension), times(256, lesser)?)
@@ -71,7 +72,8 @@ fn excess(a: i64, b: i64) -> i128
 
 /// The coefficient of (y/16)²: M/(16 m), with M the greater of the strengths.
 fn quadratic<N: Enclosure>(tension: i64, compression: i64) -> Option<N>
-    ensures { IfSome result (λ z. Encloses N.SCALE (N.low_end z) (N.high_end z) (quadratic_coefficient tension compression)) }
+    ensures { IfSome result (λ z.
+        Encloses N.SCALE (N.low_end z) (N.high_end z) (quadratic_coefficient tension compression)) }
 {
     let lesser = i128::from(tension.min(compression));
     ratio(i128::from(tension.max(compression)), times(16, lesser)?)
@@ -79,7 +81,8 @@ fn quadratic<N: Enclosure>(tension: i64, compression: i64) -> Option<N>
 
 /// The coefficient of the product of both variables: F12 X Y/(8·10¹⁸), with X and Y the greater strengths.
 fn mixed<N: Enclosure>(lamina: &Lamina) -> Option<N>
-    ensures { IfSome result (λ z. Encloses N.SCALE (N.low_end z) (N.high_end z) (mixed_coefficient lamina.now)) }
+    ensures { IfSome result (λ z.
+        Encloses N.SCALE (N.low_end z) (N.high_end z) (mixed_coefficient lamina.now)) }
 {
     let x = i128::from(lamina.xt.max(lamina.xc));
     let y = i128::from(lamina.yt.max(lamina.yc));
@@ -91,19 +94,22 @@ fn mixed<N: Enclosure>(lamina: &Lamina) -> Option<N>
 
 /// A stress times a factor, over 16 times a strength.
 fn over_strength<N: Enclosure>(stress: i64, over: i64, thousandths: u16, strength: i64) -> Option<N>
-    ensures { IfSome result (λ z. Encloses N.SCALE (N.low_end z) (N.high_end z) (scaled_stress stress over thousandths strength)) }
+    ensures { IfSome result (λ z.
+        Encloses N.SCALE (N.low_end z) (N.high_end z) (scaled_stress stress over thousandths strength)) }
 {
     let load = times(i128::from(stress), i128::from(thousandths))?;
     let bearing = times(i128::from(over), i128::from(strength))?;
     ratio(load, times(16, bearing)?)
 }
 
+/// The stresses in a lamina times a factor, each over 16 times the greater strength of its axis.
 fn utilisation_of<N: Enclosure>(
     lamina: &Lamina,
     stress: &PlyStress,
     thousandths: u16,
 ) -> Option<Utilisation<N>>
-    ensures { IfSome result (λ y. HoldsScaled N.SCALE N.low_end N.high_end y (scaled_of lamina.now stress.now thousandths)) }
+    ensures { IfSome result (λ y.
+        HoldsScaled N.SCALE N.low_end N.high_end y (scaled_of lamina.now stress.now thousandths)) }
 {
     let x = lamina.xt.max(lamina.xc);
     let y = lamina.yt.max(lamina.yc);
@@ -116,14 +122,21 @@ fn utilisation_of<N: Enclosure>(
 
 /// The terms of an axis: a y/16 + b (y/16)².
 fn axis_terms<N: Enclosure>(first: N, second: N, y: N) -> Option<N>
-    ensures { IfSome result (λ z. (a b u : ℚ) → Encloses N.SCALE (N.low_end first) (N.high_end first) a → Encloses N.SCALE (N.low_end second) (N.high_end second) b → Encloses N.SCALE (N.low_end y) (N.high_end y) u → Encloses N.SCALE (N.low_end z) (N.high_end z) (axis_value a b u)) }
+    ensures { IfSome result (λ z. (a b u : ℚ)
+        → Encloses N.SCALE (N.low_end first) (N.high_end first) a
+        → Encloses N.SCALE (N.low_end second) (N.high_end second) b
+        → Encloses N.SCALE (N.low_end y) (N.high_end y) u
+        → Encloses N.SCALE (N.low_end z) (N.high_end z) (axis_value a b u)) }
 {
     sum(product(first, y)?, product(second, square(y)?)?)
 }
 
 /// The value (f - 1)/4096.
 fn value<N: Enclosure>(by: &Coefficients<N>, y: &Utilisation<N>) -> Option<N>
-    ensures { IfSome result (λ z. (k : Terms) (u : InPly) → HoldsTerms N.SCALE N.low_end N.high_end by.now k → HoldsScaled N.SCALE N.low_end N.high_end y.now u → Encloses N.SCALE (N.low_end z) (N.high_end z) (scaled_value k u)) }
+    ensures { IfSome result (λ z. (k : Terms) (u : InPly)
+        → HoldsTerms N.SCALE N.low_end N.high_end by.now k
+        → HoldsScaled N.SCALE N.low_end N.high_end y.now u
+        → Encloses N.SCALE (N.low_end z) (N.high_end z) (scaled_value k u)) }
 {
     let along = axis_terms(by.along, by.along_square, y.along)?;
     let across = axis_terms(by.across, by.across_square, y.across)?;

@@ -50,11 +50,12 @@ pub fn times(a: i128, b: i128) -> Option<i128>
     a.checked_mul(b)
 }
 
-/// The enclosure of a ratio.
+/// The enclosure of a ratio, where numerator and denominator are in range.
 pub fn ratio<N: Enclosure>(num: i128, den: i128) -> Option<N>
     ensures positive { IfSome result (λ _. pos 0 <ℤ den) }
     ensures held { IfSome result (λ z. Encloses N.SCALE (N.low_end z) (N.high_end z) (fraction num den)) }
-    ensures some { pos 0 <ℤ den → unsigned_abs den ≤ 2 ^ 66 → unsigned_abs num ≤ 2 ^ 66 → unsigned_abs num ≤ 6 * unsigned_abs den → IsSome result }
+    ensures some { pos 0 <ℤ den → unsigned_abs den ≤ 2 ^ 66
+        → unsigned_abs num ≤ 2 ^ 66 → unsigned_abs num ≤ 6 * unsigned_abs den → IsSome result }
 {
     let size = num.unsigned_abs();
     let over = den.unsigned_abs();
@@ -65,10 +66,14 @@ pub fn ratio<N: Enclosure>(num: i128, den: i128) -> Option<N>
     }
 }
 
-/// The enclosure of a sum.
+/// The enclosure of a sum, where the reaches leave room for it.
 pub fn sum<N: Enclosure>(x: N, y: N) -> Option<N>
-    ensures held { IfSome result (λ z. (u v : ℚ) → Encloses N.SCALE (N.low_end x) (N.high_end x) u → Encloses N.SCALE (N.low_end y) (N.high_end y) v → Encloses N.SCALE (N.low_end z) (N.high_end z) (u +ℚ v)) }
-    ensures some { reach (N.low_end x) (N.high_end x) + reach (N.low_end y) (N.high_end y) ≤ 6 * 2 ^ N.SCALE → IsSome result }
+    ensures held { IfSome result (λ z. (u v : ℚ)
+        → Encloses N.SCALE (N.low_end x) (N.high_end x) u
+        → Encloses N.SCALE (N.low_end y) (N.high_end y) v
+        → Encloses N.SCALE (N.low_end z) (N.high_end z) (u +ℚ v)) }
+    ensures some { reach (N.low_end x) (N.high_end x) + reach (N.low_end y) (N.high_end y)
+        ≤ 6 * 2 ^ N.SCALE → IsSome result }
 {
     if reach_of(x) + reach_of(y) <= 6 * unit(N::SCALE) {
         Some(x.add(y))
@@ -77,10 +82,14 @@ pub fn sum<N: Enclosure>(x: N, y: N) -> Option<N>
     }
 }
 
-/// The enclosure of a difference.
+/// The enclosure of a difference, where the reaches leave room for it.
 pub fn difference<N: Enclosure>(x: N, y: N) -> Option<N>
-    ensures held { IfSome result (λ z. (u v : ℚ) → Encloses N.SCALE (N.low_end x) (N.high_end x) u → Encloses N.SCALE (N.low_end y) (N.high_end y) v → Encloses N.SCALE (N.low_end z) (N.high_end z) (u -ℚ v)) }
-    ensures some { reach (N.low_end x) (N.high_end x) + reach (N.low_end y) (N.high_end y) ≤ 6 * 2 ^ N.SCALE → IsSome result }
+    ensures held { IfSome result (λ z. (u v : ℚ)
+        → Encloses N.SCALE (N.low_end x) (N.high_end x) u
+        → Encloses N.SCALE (N.low_end y) (N.high_end y) v
+        → Encloses N.SCALE (N.low_end z) (N.high_end z) (u -ℚ v)) }
+    ensures some { reach (N.low_end x) (N.high_end x) + reach (N.low_end y) (N.high_end y)
+        ≤ 6 * 2 ^ N.SCALE → IsSome result }
 {
     if reach_of(x) + reach_of(y) <= 6 * unit(N::SCALE) {
         Some(x.sub(y))
@@ -89,10 +98,14 @@ pub fn difference<N: Enclosure>(x: N, y: N) -> Option<N>
     }
 }
 
-/// The enclosure of a product.
+/// The enclosure of a product, where the reaches leave room for it.
 pub fn product<N: Enclosure>(x: N, y: N) -> Option<N>
-    ensures held { IfSome result (λ z. (u v : ℚ) → Encloses N.SCALE (N.low_end x) (N.high_end x) u → Encloses N.SCALE (N.low_end y) (N.high_end y) v → Encloses N.SCALE (N.low_end z) (N.high_end z) (u *ℚ v)) }
-    ensures some { reach (N.low_end x) (N.high_end x) * reach (N.low_end y) (N.high_end y) ≤ 6 * (2 ^ N.SCALE * 2 ^ N.SCALE) → IsSome result }
+    ensures held { IfSome result (λ z. (u v : ℚ)
+        → Encloses N.SCALE (N.low_end x) (N.high_end x) u
+        → Encloses N.SCALE (N.low_end y) (N.high_end y) v
+        → Encloses N.SCALE (N.low_end z) (N.high_end z) (u *ℚ v)) }
+    ensures some { reach (N.low_end x) (N.high_end x) * reach (N.low_end y) (N.high_end y)
+        ≤ 6 * (2 ^ N.SCALE * 2 ^ N.SCALE) → IsSome result }
 {
     if reach_of(x) * reach_of(y) <= 6 * (unit(N::SCALE) * unit(N::SCALE)) {
         Some(x.mul(y))
@@ -101,9 +114,11 @@ pub fn product<N: Enclosure>(x: N, y: N) -> Option<N>
     }
 }
 
-/// The enclosure of a square.
+/// The enclosure of a square, where the reaches leave room for it.
 pub fn square<N: Enclosure>(x: N) -> Option<N>
-    ensures held { IfSome result (λ z. (u : ℚ) → Encloses N.SCALE (N.low_end x) (N.high_end x) u → Encloses N.SCALE (N.low_end z) (N.high_end z) (u *ℚ u)) }
+    ensures held { IfSome result (λ z. (u : ℚ)
+        → Encloses N.SCALE (N.low_end x) (N.high_end x) u
+        → Encloses N.SCALE (N.low_end z) (N.high_end z) (u *ℚ u)) }
     ensures some { reach (N.low_end x) (N.high_end x) ≤ 2 * 2 ^ N.SCALE → IsSome result }
 {
     if reach_of(x) <= 2 * unit(N::SCALE) {
