@@ -25,6 +25,7 @@ use Rattle.lam_wall.proofs.WallSums.{sums_by_matrices}
 use Rattle.lam_wall.proofs.WallEnergy.{energy_between}
 use Rattle.lam_wall.proofs.WallForm.{form_between}
 use Rattle.lam_wall.proofs.OnlyField.{field_only}
+use Rattle.lam_wall.proofs.FieldExists.{field_exists}
 
 -- plies of at least 50 µm are as thick as that together
 thick_together : (wall : List Item) → AllByRecursion (λ i. pos 50 ≤ℤ i.lamina.t) wall → pos (50 * length wall) ≤ℤ wall_thickness wall
@@ -78,3 +79,10 @@ module _ (stock : List Item) (limits : All WithinLimits stock) (floor q0 : ℤ) 
   catalogue-field floor_above scale_above load f g some solves_f solves_g =
       field_only floor q0 wall (matrices (item_stiffness_over q0) wall) load f g floor_above scale_above (above some) thick between
       (sums_by_matrices q0 (item_stiffness_over q0) wall (stiffnesses q0 scale_above) (above some)) solves_f solves_g
+
+  pub catalogue-has_field : pos 0 <ℤ floor → pos 0 <ℤ q0 → (load : Load) → 1 ≤ length (items_of stock numbers)
+      → (f : Field) × Solves (items_of stock numbers) load f
+  unfolding wall
+  catalogue-has_field floor_above scale_above load some =
+      field_exists floor q0 wall (matrices (item_stiffness_over q0) wall) load floor_above scale_above (above some) thick between
+      (sums_by_matrices q0 (item_stiffness_over q0) wall (stiffnesses q0 scale_above) (above some))

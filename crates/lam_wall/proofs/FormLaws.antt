@@ -10,7 +10,7 @@ use Rattle.lam_wall.specs.Matrices.{Matrices, added, forces, moments}
 use Rattle.lam_lamina.specs.Work.{work}
 
 -- ---- one stiffness
-work-turned : (q : Symmetric) (u v : InWall) → work (stress_of q u) v ≡ work (stress_of q v) u
+pub work-turned : (q : Symmetric) (u v : InWall) → work (stress_of q u) v ≡ work (stress_of q v) u
 unfolding ◌-ℚ◌ ◌/ℚ◌
 work-turned q u v = solve 12 (λ a b c d e f ux uy us vx vy vs.
     (a ⊗ ux ⊕ b ⊗ uy ⊕ d ⊗ us) ⊗ vx ⊕ (b ⊗ ux ⊕ c ⊗ uy ⊕ e ⊗ us) ⊗ vy ⊕ (d ⊗ ux ⊕ e ⊗ uy ⊕ f ⊗ us) ⊗ vs

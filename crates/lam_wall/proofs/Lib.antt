@@ -12,10 +12,13 @@ pub mod WallEnergy
 pub mod Strains
 pub mod WallForm
 pub mod FormLaws
+pub mod Adjugates
+pub mod Solutions
 pub mod Trials
 pub mod OnlyMatrices
 pub mod MeanSquares
 pub mod OnlyField
+pub mod FieldExists
 pub mod Stiffnesses
 pub mod Listed
 pub mod ThicknessSteps

@@ -42,7 +42,7 @@ no_work m e k p q =
     ∙ solve 6 (λ a b c x y z. (int (pos 0) ⊗ a ⊕ int (pos 0) ⊗ b ⊕ int (pos 0) ⊗ c) ⊕ (int (pos 0) ⊗ x ⊕ int (pos 0) ⊗ y ⊕ int (pos 0) ⊗ z) ≐ int (pos 0)) refl e.x e.y e.s k.x k.y k.s
 
 -- floor over the scale is above 0
-ratio_above : (floor q0 : ℤ) → pos 0 <ℤ floor → pos 0 <ℤ q0 → whole (pos 0) <ℚ fraction floor q0
+pub ratio_above : (floor q0 : ℤ) → pos 0 <ℤ floor → pos 0 <ℤ q0 → whole (pos 0) <ℚ fraction floor q0
 unfolding ◌-ℚ◌ ◌/ℚ◌
 ratio_above floor q0 h k = below_over (positive k) (positive h)
     (from₁ (whole (pos 1)) (fraction-times floor q0 k)

@@ -47,3 +47,14 @@ FieldOnly = (floor q0 : ℤ) (wall : List Item) (m : Matrices) (load : Load) (f 
 abbrev pub CatalogueField : List Item → Type 0
 CatalogueField stock = (numbers : List ItemNo) (load : Load) (f g : Field)
     → 1 ≤ length (items_of stock numbers) → Solves (items_of stock numbers) load f → Solves (items_of stock numbers) load g → f ≡ g
+
+-- under each load it has one
+abbrev pub FieldExists : Type 0
+FieldExists = (floor q0 : ℤ) (wall : List Item) (m : Matrices) (load : Load)
+    → pos 0 <ℤ floor → pos 0 <ℤ q0 → pos 0 <ℤ wall_thickness wall → All (λ i. pos 0 ≤ℤ i.lamina.t) wall → All (WorksBetween floor q0) wall
+    → AreMatrices q0 wall m → (f : Field) × Solves wall load f
+
+-- so it is for each wall of a catalogue
+abbrev pub CatalogueHasField : List Item → Type 0
+CatalogueHasField stock = (numbers : List ItemNo) (load : Load)
+    → 1 ≤ length (items_of stock numbers) → (f : Field) × Solves (items_of stock numbers) load f

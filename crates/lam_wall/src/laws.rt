@@ -1,7 +1,7 @@
 //! The laws of a wall's matrices and of its energy, each the contract of a function that does nothing.
 
 ghost use Rattle.lam_wall.specs.Energy.{CatalogueEnergy, EnergyBetween};
-ghost use Rattle.lam_wall.specs.Form.{CatalogueField, CatalogueForm, FieldOnly, FormBetween};
+ghost use Rattle.lam_wall.specs.Form.{CatalogueField, CatalogueForm, CatalogueHasField, FieldExists, FieldOnly, FormBetween};
 ghost use Rattle.lam_wall.specs.MatrixLaw.{EquilibriumByMatrices, MatricesOnly, SumsByMatrices};
 
 use lam_lamina::layers_work_between;
@@ -37,6 +37,11 @@ pub fn field_only()
     ensures { FieldOnly }
 {}
 
+/// Under each load a wall has a field.
+pub fn field_exists()
+    ensures { FieldExists }
+{}
+
 /// No wall of a catalogue's items is softer than the catalogue's floor says, and none is stiffer than its `q0`:
 /// whatever strains and bending a load gives the wall, the load does at least the work that it would do on one layer
 /// of stiffness floor and of the wall's thickness, and at most that on one of stiffness `q0`.
@@ -60,6 +65,16 @@ pub fn no_form_is_softer(stock: &Stock)
 /// Under a load a wall of at least one of a catalogue's items has at most one field.
 pub fn wall_has_one_field(stock: &Stock)
     ensures { CatalogueField stock.now }
+{
+    layers_work_between(stock);
+    let _items = stock.items();
+    let _scale = stock.scale();
+}
+
+/// Under each load a wall of at least one of a catalogue's items has a field, so that what is said of every field of
+/// such a wall never speaks of nothing.
+pub fn wall_has_a_field(stock: &Stock)
+    ensures { CatalogueHasField stock.now }
 {
     layers_work_between(stock);
     let _items = stock.items();
