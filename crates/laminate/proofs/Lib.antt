@@ -6,6 +6,7 @@ pub mod CriterionTrials
 pub mod RatioMet
 pub mod ReadAgain
 pub mod ScaledValue
+pub mod StrengthBounds
 pub mod SomeHeld
 pub mod StepFacts
 pub mod OrderFacts

@@ -10,8 +10,9 @@ use Rattle.lam_stock.specs.declared.item.Lamina.{Lamina}
 use Rattle.lam_stock.specs.PlyLaw.{InPly}
 use Rattle.lam_stock.specs.TsaiWu.{criterion, tsai_wu, RatioAtLeast}
 use Rattle.laminate.specs.declared.ply_stress.PlyStress.{PlyStress}
-use Rattle.laminate.specs.StrengthRatio.{PositiveStrengths, ply_stress_of}
+use Rattle.laminate.specs.StrengthRatio.{KeepsStrengths, ply_stress_of}
 use Rattle.laminate.specs.ScaledCriterion.{terms_of, scaled_of, scaled_value}
+use Rattle.laminate.proofs.StrengthBounds.{positive_strengths}
 use Rattle.laminate.proofs.ScaledValue.{unit_value, unit_positive, scaled-value}
 
 -- f - 1, times a positive number, is not above 0
@@ -20,12 +21,12 @@ not_above_one k n v f p q e h =
     at_most_over {k = k *ℚ n} (p *ₚ q) (above h) (from₁ n e (by_ring (k ∷ n ∷ v ∷ f ∷ []) (search quotes depth 30) refl))
 
 -- what is held lies below 0, so that the criterion lies below 1
-pub met : (scale : ℕ) (low high : ℤ) (l : Lamina) (s : PlyStress) (r : ℕ) → PositiveStrengths l → high ≤ℤ pos 0
+pub met : (scale : ℕ) (low high : ℤ) (l : Lamina) (s : PlyStress) (r : ℕ) → KeepsStrengths l → high ≤ℤ pos 0
     → Encloses scale low high (scaled_value (terms_of l) (scaled_of l s r)) → RatioAtLeast l (ply_stress_of s) (whole (pos r))
 met scale low high l s r h below held =
     not_above_one unit_value (whole (pos (2 ^ scale))) (scaled_value (terms_of l) (scaled_of l s r)) (tsai_wu l (ply_stress_of s) (whole (pos r)))
     unit_positive ((whole-lt (pos 0) (pos (2 ^ scale))).1 (omega (arith, ints, pow_pos scale)))
-    (scaled-value l s r h) (transitive held.to ((whole-le high (pos 0)).1 below))
+    (scaled-value l s r (positive_strengths h)) (transitive held.to ((whole-le high (pos 0)).1 below))
 
 -- at no stress the criterion is 0
 nothing : (a b c i₁ i₂ i₃ i₄ i₅ i₆ i₇ i₈ g : ℚ) → let z = whole (pos 0) in

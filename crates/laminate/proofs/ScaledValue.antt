@@ -10,8 +10,9 @@ use Rattle.lam_fraction.proofs.Rationals.{quotes, by_ring, from₁, decide, inve
 use Rattle.lam_stock.specs.declared.item.Lamina.{Lamina}
 use Rattle.lam_stock.specs.TsaiWu.{criterion, tsai_wu}
 use Rattle.laminate.specs.declared.ply_stress.PlyStress.{PlyStress}
-use Rattle.laminate.specs.StrengthRatio.{PositiveStrengths, ply_stress_of}
+use Rattle.laminate.specs.StrengthRatio.{ply_stress_of}
 use Rattle.laminate.specs.ScaledCriterion.{linear_coefficient, quadratic_coefficient, mixed_coefficient, scaled_stress, terms_of, scaled_of, axis_value, scaled_value}
+use Rattle.laminate.proofs.StrengthBounds.{PositiveStrengths}
 use Rattle.laminate.proofs.CriterionTerms.{one_over, inverse-product, linear_term, linear_term_turned, square_term, cross_term, shear_term}
 
 abbrev pub sixteenth : ℚ

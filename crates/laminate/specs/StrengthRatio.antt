@@ -1,17 +1,15 @@
 -- What the strength ratio of a ply is taken of.
-use Rattle.std.specs.Prelude.{pos, ◌<ℤ◌}
 use Rattle.lam_fraction.specs.Fraction.{fraction}
 use Rattle.lam_stock.specs.declared.item.Lamina.{Lamina}
+use Rattle.lam_stock.specs.Limits.{StrengthsInRange, KeepsRatio, KeepsCross}
 use Rattle.lam_stock.specs.PlyLaw.{InPly}
 use Rattle.laminate.specs.declared.ply_stress.PlyStress.{PlyStress}
 
--- the criterion divides by each strength
-pub record PositiveStrengths (l : Lamina) : Type 0 where
-  pub xt : pos 0 <ℤ l.xt
-  pub xc : pos 0 <ℤ l.xc
-  pub yt : pos 0 <ℤ l.yt
-  pub yc : pos 0 <ℤ l.yc
-  pub s : pos 0 <ℤ l.s
+-- the limits of an item on its strengths and its interaction term
+pub record KeepsStrengths (l : Lamina) : Type 0 where
+  pub range : StrengthsInRange l
+  pub ratio : KeepsRatio l
+  pub cross : KeepsCross l
 
 -- the stress in MPa that numerators over a common denominator stand for
 abbrev pub ply_stress_of : PlyStress → InPly

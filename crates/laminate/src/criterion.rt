@@ -2,19 +2,23 @@
 //! strength of a lamina).
 //!
 //! With y a stress times the factor over the greater strength of its axis, each variable is y/16, and
-//! the value is (f - 1)/4096, so that every term is of moderate size. A step whose number leaves the
-//! enclosures' range answers None, and the factor then isn't met.
+//! the value is (f - 1)/4096, so that every term is of moderate size. The limits of an item keep the
+//! coefficients in the enclosures' range; a later step whose number leaves it answers None, and the
+//! factor then isn't met.
 
-ghost use Rattle.std.specs.Prelude.{◌≡◌, ◌^◌, ◌/◌, ◌≤◌, ◌≤ℤ◌, ◌<ℤ◌, ◌-ℤ◌, pos, IfSome, IsTrue};
+ghost use Rattle.std.specs.Prelude.{◌≡◌, ◌^◌, ◌/◌, ◌≤◌, ◌≤ℤ◌, ◌-ℤ◌, ◌*ℤ◌, pos, IfSome, IsTrue};
+ghost use Rattle.std.specs.Int.{int_min, int_max};
 ghost use Rattle.lam_fraction.specs.Fraction.{ℚ, whole};
 ghost use Rattle.lam_number.specs.Encloses.{Encloses};
+ghost use Rattle.lam_stock.specs.Limits.{IsNear, IsStrength};
 ghost use Rattle.lam_stock.specs.PlyLaw.{InPly};
 ghost use Rattle.lam_stock.specs.TsaiWu.{RatioAtLeast};
 ghost use Rattle.laminate.specs.ScaledCriterion.{Terms, linear_coefficient, quadratic_coefficient, mixed_coefficient, scaled_stress, terms_of, scaled_of, axis_value, scaled_value, HoldsTerms, HoldsScaled};
-ghost use Rattle.laminate.specs.StrengthRatio.{PositiveStrengths, ply_stress_of};
+ghost use Rattle.laminate.specs.StrengthRatio.{KeepsStrengths, ply_stress_of};
 
 use crate::guarded::{difference, product, ratio, square, sum, times, unit};
 use crate::ply_stress::PlyStress;
+use crate::wide::wide_product;
 use lam_number::{Enclosure, Sign};
 use lam_stock::Lamina;
 
@@ -39,28 +43,32 @@ struct Utilisation<N> {
 }
 
 /// The coefficients at a lamina.
-fn coefficients_of<N: Enclosure>(lamina: &Lamina) -> Option<Coefficients<N>>
-    requires { PositiveStrengths lamina.now }
-    ensures { IfSome result (λ by. HoldsTerms N.SCALE N.low_end N.high_end by (terms_of lamina.now)) }
+fn coefficients_of<N: Enclosure>(lamina: &Lamina) -> Coefficients<N>
+    requires { KeepsStrengths lamina.now }
+    ensures { HoldsTerms N.SCALE N.low_end N.high_end result (terms_of lamina.now) }
 {
-    Some(Coefficients {
-        along: linear(lamina.xt, lamina.xc)?,
-        across: linear(lamina.yt, lamina.yc)?,
-        along_square: quadratic(lamina.xt, lamina.xc)?,
-        across_square: quadratic(lamina.yt, lamina.yc)?,
-        mixed: mixed(lamina)?,
-        shear_square: ratio(1, 16)?,
-        one: ratio(1, 4096)?,
-    })
+    Coefficients {
+        along: linear(lamina.xt, lamina.xc),
+        across: linear(lamina.yt, lamina.yc),
+        along_square: quadratic(lamina.xt, lamina.xc),
+        across_square: quadratic(lamina.yt, lamina.yc),
+        mixed: mixed(lamina),
+        shear_square: N::of_ratio(1, 16),
+        one: N::of_ratio(1, 4096),
+    }
 }
 
 /// The coefficient of y/16 along an axis: (C - T)/(256 m), with m the lesser of the strengths T and C.
-fn linear<N: Enclosure>(tension: i64, compression: i64) -> Option<N>
-    ensures { IfSome result (λ z.
-        Encloses N.SCALE (N.low_end z) (N.high_end z) (linear_coefficient tension compression)) }
+fn linear<N: Enclosure>(tension: i64, compression: i64) -> N
+    requires tension { IsStrength tension }
+    requires compression { IsStrength compression }
+    requires near { IsNear tension compression }
+    ensures { Encloses N.SCALE (N.low_end result) (N.high_end result) (linear_coefficient tension compression) }
 {
-    let lesser = i128::from(tension.min(compression));
-    ratio(excess(compression, tension), times(256, lesser)?)
+    N::of_ratio(
+        excess(compression, tension),
+        times_lesser(256, tension, compression),
+    )
 }
 
 /// How far a number is above another.
@@ -70,26 +78,43 @@ fn excess(a: i64, b: i64) -> i128
     i128::from(a) - i128::from(b)
 }
 
-/// The coefficient of (y/16)²: M/(16 m), with M the greater of the strengths.
-fn quadratic<N: Enclosure>(tension: i64, compression: i64) -> Option<N>
-    ensures { IfSome result (λ z.
-        Encloses N.SCALE (N.low_end z) (N.high_end z) (quadratic_coefficient tension compression)) }
+/// A factor times the lesser of two numbers.
+fn times_lesser(factor: i64, a: i64, b: i64) -> i128
+    ensures { result ≡ factor *ℤ int_min a b }
 {
-    let lesser = i128::from(tension.min(compression));
-    ratio(i128::from(tension.max(compression)), times(16, lesser)?)
+    wide_product(factor, a.min(b))
+}
+
+/// The coefficient of (y/16)²: M/(16 m), with M the greater of the strengths.
+fn quadratic<N: Enclosure>(tension: i64, compression: i64) -> N
+    requires tension { IsStrength tension }
+    requires compression { IsStrength compression }
+    requires near { IsNear tension compression }
+    ensures { Encloses N.SCALE (N.low_end result) (N.high_end result) (quadratic_coefficient tension compression) }
+{
+    N::of_ratio(
+        i128::from(tension.max(compression)),
+        times_lesser(16, tension, compression),
+    )
 }
 
 /// The coefficient of the product of both variables: F12 X Y/(8·10¹⁸), with X and Y the greater strengths.
-fn mixed<N: Enclosure>(lamina: &Lamina) -> Option<N>
-    ensures { IfSome result (λ z.
-        Encloses N.SCALE (N.low_end z) (N.high_end z) (mixed_coefficient lamina.now)) }
+fn mixed<N: Enclosure>(lamina: &Lamina) -> N
+    requires { KeepsStrengths lamina.now }
+    ensures { Encloses N.SCALE (N.low_end result) (N.high_end result) (mixed_coefficient lamina.now) }
 {
-    let x = i128::from(lamina.xt.max(lamina.xc));
-    let y = i128::from(lamina.yt.max(lamina.yc));
-    ratio(
-        times(i128::from(lamina.f12), times(x, y)?)?,
-        8_000_000_000_000_000_000,
-    )
+    N::of_ratio(interaction(lamina), 8_000_000_000_000_000_000)
+}
+
+/// F12 X Y, the numerator of that coefficient.
+fn interaction(lamina: &Lamina) -> i128
+    requires { KeepsStrengths lamina.now }
+    ensures { result ≡ lamina.now.f12
+        *ℤ (int_max lamina.now.xt lamina.now.xc *ℤ int_max lamina.now.yt lamina.now.yc) }
+{
+    let x = lamina.xt.max(lamina.xc);
+    let y = lamina.yt.max(lamina.yc);
+    i128::from(lamina.f12) * wide_product(x, y)
 }
 
 /// A stress times a factor, over 16 times a strength.
@@ -161,7 +186,7 @@ fn meets<N: Enclosure>(
     stress: &PlyStress,
     thousandths: u16,
 ) -> bool
-    requires strengths { PositiveStrengths lamina.now }
+    requires strengths { KeepsStrengths lamina.now }
     requires held { HoldsTerms N.SCALE N.low_end N.high_end by.now (terms_of lamina.now) }
     ensures { IsTrue result → RatioAtLeast lamina.now (ply_stress_of stress.now) (whole (pos thousandths)) }
 {
@@ -176,13 +201,11 @@ fn meets<N: Enclosure>(
 
 /// The strength ratio in thousandths, rounded down, from 0 to 20,000: 0, or a factor that the ply meets.
 pub fn printed_ratio<N: Enclosure>(lamina: &Lamina, stress: &PlyStress) -> u16
-    requires { PositiveStrengths lamina.now }
+    requires { KeepsStrengths lamina.now }
     ensures bound { result ≤ 20000 }
     ensures met { RatioAtLeast lamina.now (ply_stress_of stress.now) (whole (pos result)) }
 {
-    let Some(by) = coefficients_of::<N>(lamina) else {
-        return 0;
-    };
+    let by = coefficients_of::<N>(lamina);
     let mut met: u16 = 0;
     let mut beyond: u16 = 20_001;
     while beyond - met > 1 {
@@ -203,7 +226,8 @@ mod tests {
 
     /// The ratio of a mat of 100 MPa, and of `yc` in compression across, under a stress across.
     fn printed_across(across: i64, yc: i64) -> u16
-        requires { pos 0 <ℤ yc }
+        requires yc { IsStrength yc }
+        requires near { IsNear (pos 100000) yc }
     {
         let lamina = Lamina {
             e1: 10_000,

@@ -13,6 +13,7 @@ mod status;
 mod steps;
 mod top;
 mod turning;
+mod wide;
 mod words;
 
 use crate::status::Status;

@@ -14,6 +14,7 @@ use crate::criterion::printed_ratio;
 use crate::fault::{Fault, Source, Stop};
 use crate::job::{Job, JobError, read_job};
 use crate::turning::stress_in_ply;
+use crate::wide::wide_product;
 use lam_number::Fix;
 use lam_outside::{Bytes, Files, TakeFault, Taken};
 use lam_stock::{Item, Kind, Scale, Stock, StockError, read_stock};
@@ -158,13 +159,7 @@ fn is_in_range(floor: i64, thickness: i64, force: i64) -> bool
 fn is_at_most(a: i64, b: i64, c: i64, d: i64) -> bool
     ensures { result ≡ int_le (a *ℤ b) (c *ℤ d) }
 {
-    product(a, b) <= product(c, d)
-}
-
-fn product(a: i64, b: i64) -> i128
-    ensures { result ≡ a *ℤ b }
-{
-    i128::from(a) * i128::from(b)
+    wide_product(a, b) <= wide_product(c, d)
 }
 
 /// The analysis of a ply under the forces of a job.

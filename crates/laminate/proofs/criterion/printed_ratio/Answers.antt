@@ -3,8 +3,5 @@ use Rattle.laminate.specs.StrengthRatio.{ply_stress_of}
 use Rattle.laminate.proofs.RatioMet.{zero_met}
 use Rattle.laminate.proofs.criterion.printed_ratio.Goals as goal
 
-pub returns-in_default-clause-met : goal.returns-in_default-clause-met
-returns-in_default-clause-met g c = zero_met c.args.lamina.now (ply_stress_of c.args.stress.now)
-
 pub loop-beyond-init : goal.loop-beyond-init
 loop-beyond-init g c = (omega arith, omega arith, zero_met c.args.lamina.now (ply_stress_of c.args.stress.now))
