@@ -7,20 +7,19 @@ use Rattle.lam_stock.specs.declared.item.Item.{Item}
 use Rattle.lam_stock.specs.declared.item.ItemNo.{ItemNo}
 use Rattle.lam_stock.specs.PlyLaw.{InWall}
 use Rattle.lam_stock.specs.Stock.{WithinLimits}
-use Rattle.lam_lamina.specs.Stiffness.{Symmetric, stiffness_over}
 use Rattle.lam_lamina.specs.Work.{WorksBetween}
-use Rattle.lam_lamina.proofs.Identities.{stiffness-gives}
 use Rattle.lam_job.specs.declared.load.Load.{Load}
 use Rattle.lam_job.specs.Equilibrium.{Solves}
 use Rattle.lam_job.specs.Field.{Field}
 use Rattle.lam_job.specs.Schedule.{items_of}
 use Rattle.lam_job.specs.Wall.{wall_thickness}
-use Rattle.lam_wall.specs.Matrices.{AreStiffnesses, Matrices, matrices}
+use Rattle.lam_wall.specs.Matrices.{Matrices, matrices}
+use Rattle.lam_wall.specs.Assembled.{stiffness_of}
 use Rattle.lam_wall.specs.MatrixLaw.{AreMatrices}
 use Rattle.lam_wall.specs.Energy.{HasEnergyBetween}
 use Rattle.lam_wall.specs.Form.{HasFormBetween}
 use Rattle.lam_wall.proofs.Listed.{items_of-all}
-use Rattle.lam_wall.proofs.Stiffnesses.{are_stiffnesses}
+use Rattle.lam_wall.proofs.Assembled.{stiffness-is}
 use Rattle.lam_wall.proofs.WallSums.{sums_by_matrices}
 use Rattle.lam_wall.proofs.WallEnergy.{energy_between}
 use Rattle.lam_wall.proofs.WallForm.{form_between}
@@ -31,14 +30,6 @@ use Rattle.lam_wall.proofs.FieldExists.{field_exists}
 thick_together : (wall : List Item) → AllByRecursion (λ i. pos 50 ≤ℤ i.lamina.t) wall → pos (50 * length wall) ≤ℤ wall_thickness wall
 thick_together [] h = omega (arith, ints)
 thick_together (i ∷ wall) h = let rest = thick_together wall h.1 in let first = h.0 in omega (arith, ints)
-
--- the stiffness of each item, over q0
-item_stiffness_over : ℤ → Item → Symmetric
-item_stiffness_over q0 i = stiffness_over q0 i.kind i.lamina i.dir
-
-stiffnesses : (q0 : ℤ) → pos 0 <ℤ q0 → AreStiffnesses q0 (item_stiffness_over q0)
-unfolding item_stiffness_over
-stiffnesses q0 above = are_stiffnesses q0 above (item_stiffness_over q0) (λ i e. (stiffness-gives q0 i.kind i.lamina i.dir).gives e)
 
 module _ (stock : List Item) (limits : All WithinLimits stock) (floor q0 : ℤ) (works : All (WorksBetween floor q0) stock) (numbers : List ItemNo) where
   wall : List Item
@@ -77,12 +68,12 @@ module _ (stock : List Item) (limits : All WithinLimits stock) (floor q0 : ℤ) 
       → Solves (items_of stock numbers) load f → Solves (items_of stock numbers) load g → f ≡ g
   unfolding wall
   catalogue-field floor_above scale_above load f g some solves_f solves_g =
-      field_only floor q0 wall (matrices (item_stiffness_over q0) wall) load f g floor_above scale_above (above some) thick between
-      (sums_by_matrices q0 (item_stiffness_over q0) wall (stiffnesses q0 scale_above) (above some)) solves_f solves_g
+      field_only floor q0 wall (matrices (stiffness_of q0) wall) load f g floor_above scale_above (above some) thick between
+      (sums_by_matrices q0 (stiffness_of q0) wall (stiffness-is q0 scale_above) (above some)) solves_f solves_g
 
   pub catalogue-has_field : pos 0 <ℤ floor → pos 0 <ℤ q0 → (load : Load) → 1 ≤ length (items_of stock numbers)
       → (f : Field) × Solves (items_of stock numbers) load f
   unfolding wall
   catalogue-has_field floor_above scale_above load some =
-      field_exists floor q0 wall (matrices (item_stiffness_over q0) wall) load floor_above scale_above (above some) thick between
-      (sums_by_matrices q0 (item_stiffness_over q0) wall (stiffnesses q0 scale_above) (above some))
+      field_exists floor q0 wall (matrices (stiffness_of q0) wall) load floor_above scale_above (above some) thick between
+      (sums_by_matrices q0 (stiffness_of q0) wall (stiffness-is q0 scale_above) (above some))

@@ -16,7 +16,7 @@ use Rattle.lam_number.specs.Ends.{reach, width}
 use Rattle.lam_lamina.specs.Known.{Known}
 use Rattle.lam_lamina.proofs.Steps.{IsFine, reach-quarters}
 use Rattle.lam_wall.specs.Parts.{IsPart, IsBelow, sum_width}
-use Rattle.lam_wall.proofs.Wholes.{whole-opposite}
+use Rattle.lam_lamina.proofs.Turning.{whole-opposite}
 
 positive_product : (m n : ℕ) → pos m *ℤ pos n ≡ pos (m * n)
 positive_product m n = omega (arith, ints)

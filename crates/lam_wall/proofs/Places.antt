@@ -10,7 +10,8 @@ use Rattle.lam_fraction.proofs.FractionRing.{whole-sum}
 use Rattle.lam_fraction.proofs.Rationals.{solve, from₁, same_without_factor, positive_number}
 use Rattle.lam_stock.specs.declared.item.Item.{Item}
 use Rattle.lam_job.specs.Wall.{Placed, placed_from, placed_plies, wall_thickness}
-use Rattle.lam_wall.proofs.Wholes.{whole-one_and_twice, whole-opposite}
+use Rattle.lam_lamina.proofs.Turning.{whole-opposite}
+use Rattle.lam_wall.proofs.Wholes.{whole-one_and_twice}
 
 -- ---- places
 

@@ -10,7 +10,8 @@ use Rattle.lam_fraction.proofs.Rationals.{solve, from₁, from₂, above, square
 use Rattle.lam_stock.specs.declared.item.Item.{Item}
 use Rattle.lam_job.specs.Wall.{Placed, placed_plies, wall_thickness}
 use Rattle.lam_wall.specs.Matrices.{extension_share, coupling_share, bending_share}
-use Rattle.lam_wall.proofs.Wholes.{positive, whole-opposite}
+use Rattle.lam_lamina.proofs.Turning.{whole-opposite}
+use Rattle.lam_wall.proofs.Wholes.{positive}
 use Rattle.lam_wall.proofs.Shares.{extension_whole, coupling_whole, bending_whole}
 use Rattle.lam_wall.proofs.Places.{Between, thickness_of, with_places, with_squares, thickness_sum, wall_places_sum, wall_squares_sum}
 

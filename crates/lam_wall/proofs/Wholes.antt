@@ -1,13 +1,13 @@
 -- Whole numbers and fractions as terms of the solver.
-use Rattle.std.proofs.Common.{neg_ℤ, ◌≡◌, refl, sym, ◌∙◌, ap, ap₂, ℤ, pos, ◌+ℤ◌, ◌*ℤ◌, ◌<ℤ◌, arith}
+use Rattle.std.proofs.Common.{◌≡◌, refl, sym, ◌∙◌, ap, ap₂, ℤ, pos, ◌+ℤ◌, ◌*ℤ◌, ◌<ℤ◌, arith}
 use Rattle.std.proofs.lemmas.Int.{ints}
 use Rattle.lam_fraction.specs.WholeNumbers.{product_positive}
-use Rattle.lam_fraction.specs.Fraction.{opposite, whole, fraction, ◌+ℚ◌, ◌*ℚ◌, ◌<ℚ◌, ◌-ℚ◌, ◌/ℚ◌}
-use Rattle.lam_fraction.proofs.Expression.{minus, ◌⊕◌, ◌⊖◌, int, ◌⊗◌}
+use Rattle.lam_fraction.specs.Fraction.{whole, fraction, ◌+ℚ◌, ◌*ℚ◌, ◌<ℚ◌, ◌-ℚ◌, ◌/ℚ◌}
+use Rattle.lam_fraction.proofs.Expression.{int, ◌⊗◌}
 use Rattle.lam_fraction.proofs.Solver.{◌≐◌}
 use Rattle.lam_fraction.proofs.FractionPairs.{whole-lt}
 use Rattle.lam_fraction.proofs.FractionRing.{whole-sum, whole-product}
-use Rattle.lam_fraction.proofs.Rationals.{from₁, solve}
+use Rattle.lam_fraction.proofs.Rationals.{solve}
 use Rattle.lam_fraction.proofs.FractionBounds.{fraction-times}
 
 -- ---- what is above 0
@@ -50,10 +50,3 @@ whole-one_and_twice a b = whole-sum a (pos 2 *ℤ b) ∙ ap (λ s. whole a +ℚ 
 pub twice_half : (z : ℤ) → whole z ≡ whole (pos 2) *ℚ fraction z (pos 2)
 unfolding ◌-ℚ◌ ◌/ℚ◌
 twice_half z = sym (fraction-times z (pos 2) (omega (arith, ints))) ∙ solve 1 (λ f. f ⊗ int (pos 2) ≐ int (pos 2) ⊗ f) refl (fraction z (pos 2))
-
--- ---- opposites
-pub whole-opposite : (n : ℤ) → whole (neg_ℤ n) ≡ opposite (whole n)
-unfolding ◌-ℚ◌ ◌/ℚ◌
-whole-opposite n =
-    let e : whole (neg_ℤ n) +ℚ whole n ≡ whole (pos 0) = sym (whole-sum (neg_ℤ n) n) ∙ ap whole (omega (arith, ints)) in
-    from₁ (whole (pos 1)) e (solve 2 (λ m n. m ≐ minus n ⊕ int (pos 1) ⊗ (m ⊕ n ⊖ int (pos 0))) refl (whole (neg_ℤ n)) (whole n))

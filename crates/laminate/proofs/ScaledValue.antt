@@ -5,8 +5,9 @@ use Rattle.std.proofs.lemmas.Int.{ints, clamps}
 use Rattle.lam_fraction.specs.Fraction.{ℚ, whole, fraction, ◌+ℚ◌, ◌-ℚ◌, ◌*ℚ◌, ◌/ℚ◌, inverse, opposite, ◌<ℚ◌}
 use Rattle.lam_fraction.specs.WholeNumbers.{product_positive}
 use Rattle.lam_fraction.proofs.FractionPairs.{whole-le, whole-lt}
-use Rattle.lam_fraction.proofs.FractionRing.{whole-product, whole-sum}
+use Rattle.lam_fraction.proofs.FractionRing.{whole-product}
 use Rattle.lam_fraction.proofs.Rationals.{quotes, by_ring, from₁, decide, inverse_positive, ◌*ₚ◌}
+use Rattle.lam_number.proofs.Rationals.{whole_difference}
 use Rattle.lam_stock.specs.declared.item.Lamina.{Lamina}
 use Rattle.lam_stock.specs.TsaiWu.{criterion, tsai_wu}
 use Rattle.laminate.specs.declared.ply_stress.PlyStress.{PlyStress}
@@ -41,11 +42,8 @@ unfolding fraction ◌/ℚ◌
 over_product n k m p q = ap (λ z. whole n *ℚ z) (inverse-product k m p q (product_positive k m p q))
 
 pub whole-difference : (m n : ℤ) → whole (m -ℤ n) ≡ whole m -ℚ whole n
-whole-difference m n =
-    from₁ (whole (pos 1)) (sym (whole-sum (m -ℤ n) n) ∙ ap whole (omega (arith, ints))) (rest (whole (m -ℤ n)) (whole m) (whole n))
-  where
-    rest : (x a b : ℚ) → x ≡ (a -ℚ b) +ℚ whole (pos 1) *ℚ ((x +ℚ b) -ℚ a)
-    rest x a b = by_ring (x ∷ a ∷ b ∷ []) (search quotes depth 20) refl
+unfolding ◌-ℚ◌
+whole-difference m n = whole_difference m n
 
 linear_form : (t c m : ℤ) → pos 0 <ℤ m → fraction (c -ℤ t) (pos 256 *ℤ m) ≡ (whole c -ℚ whole t) *ℚ ((sixteenth *ℚ sixteenth) *ℚ inverse (whole m))
 linear_form t c m p =
