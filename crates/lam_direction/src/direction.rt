@@ -173,6 +173,9 @@ mod tests {
         assert!(rt; !lean.same(&steep) && !lean.same(&lean.mirror()));
         assert_eq!(rt; doubled.mirror(), Direction::read(6, -8, 10)?);
         assert!(rt; lean.mirror().mirror().same(&lean) && !lean.on_axis());
+        let squares = lean.mirror().squares();
+        assert_eq!(rt; (squares.cosine_square, squares.sine_square), (9, 16));
+        assert_eq!(rt; (squares.product, squares.size), (-12, 25));
         Ok(())
     }
 

@@ -2,5 +2,7 @@
 #![tactic(auto)]
 
 mod direction;
+mod squares;
 
 pub use direction::{Direction, DirectionFault};
+pub use squares::DirectionSquares;

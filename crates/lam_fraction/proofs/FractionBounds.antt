@@ -111,7 +111,7 @@ inverse_antitone {x} {y} h le =
     (solve 4 (λ x y i j. i ⊖ j ≐ i ⊗ j ⊗ (y ⊖ x) ⊕ j ⊗ (x ⊗ i ⊖ int (pos 1)) ⊕ minus i ⊗ (y ⊗ j ⊖ int (pos 1))) refl x y (inverse x) (inverse y)))
 
 -- ---- an end over u, and a numerator over a denominator: low ≤ n / d · u just where low · d ≤ n · u
-whole_positive : {d : ℤ} → pos 0 <ℤ d → whole (pos 0) <ℚ whole d
+pub whole_positive : {d : ℤ} → pos 0 <ℤ d → whole (pos 0) <ℚ whole d
 whole_positive {d} h = (whole-lt (pos 0) d).1 h
 
 scaled : (n d u : ℤ) → pos 0 <ℤ d → whole d *ℚ (fraction n d *ℚ whole u) ≡ whole (n *ℤ u)

@@ -3,9 +3,9 @@ use Rattle.std.proofs.Common.{◌≡◌, ◌⊎◌, inl, inr, ℤ, pos, ◌+ℤ�
 use mathlib.Core.Bool.{Bool-set}
 use mathlib.Core.HLevel.{Π_prop}
 use mathlib.Core.Quot.{Quot-set}
-use Rattle.lam_fraction.specs.WholeNumbers.{sum-times, middle, last, le-times, product_positive}
+use Rattle.lam_fraction.specs.inside.WholeNumbers.{sum-times, middle, last, le-times, product_positive}
 use Rattle.lam_fraction.specs.Fraction.{ℚ, class_of, whole, sum_pair, product_pair, ◌+ℚ◌, ◌*ℚ◌, is_at_most, ◌≤ℚ◌, ◌<ℚ◌}
-use Rattle.lam_fraction.specs.Quotient.{of_two, on_two}
+use Rattle.lam_fraction.specs.inside.Quotient.{of_two, on_two}
 use Rattle.lam_fraction.proofs.Ring.{Ordered}
 use Rattle.lam_fraction.proofs.Laws as Laws
 use Rattle.lam_fraction.proofs.FractionPairs.{each_2, each_3, same_class, le_class, lt_class, positive_class}

@@ -11,8 +11,8 @@ use Rattle.lam_fraction.proofs.Expression.{◌⊕◌, ◌⊗◌}
 use Rattle.lam_fraction.proofs.Solver.{◌≐◌}
 use Rattle.lam_fraction.proofs.Integers.{solve}
 use Rattle.lam_fraction.specs.CrossLaws.{EqualByCrossProducts, SumByCrossProducts, ProductByCrossProducts, OrderByCrossProducts}
-use Rattle.lam_fraction.specs.WholeNumbers.{times-assoc, product_positive}
-use Rattle.lam_fraction.specs.Quotient.{of_two, on_one, on_two}
+use Rattle.lam_fraction.specs.inside.WholeNumbers.{times-assoc, product_positive}
+use Rattle.lam_fraction.specs.inside.Quotient.{of_two, on_one, on_two}
 use mathlib.Core.Quot.{Quot-set, sound, ind}
 use lib.Signed.{le_z}
 use borrow.Author.Differences.{le-true, le-false, true_is_le, false_is_le, le_out, lt_out, at_most_in, below_in}

@@ -4,10 +4,10 @@ use Rattle.std.proofs.lemmas.Int.{ints}
 use mathlib.Core.Path.{ap₂}
 use mathlib.Core.Quot.{Quot-set, sound}
 use mathlib.Core.HLevel.{Π_prop}
-use Rattle.lam_fraction.specs.WholeNumbers.{times-comm, times-assoc, sum-times, neg-times, middle, last}
-use Rattle.lam_fraction.specs.CrossProducts.{sum_turned, product_turned}
+use Rattle.lam_fraction.specs.inside.WholeNumbers.{times-comm, times-assoc, sum-times, neg-times, middle, last}
+use Rattle.lam_fraction.specs.inside.CrossProducts.{sum_turned, product_turned}
 use Rattle.lam_fraction.specs.Fraction.{ℚ, class_of, whole, ◌+ℚ◌, ◌*ℚ◌, opposite, inverse, turned_over}
-use Rattle.lam_fraction.specs.Quotient.{of_two, on_one, on_two}
+use Rattle.lam_fraction.specs.inside.Quotient.{of_two, on_one, on_two}
 use Rattle.lam_fraction.proofs.Ring.{Ring, Field}
 use Rattle.lam_fraction.proofs.Laws as Laws
 use Rattle.lam_fraction.proofs.FractionPairs.{each, equal_1, equal_2, equal_3}

@@ -1,5 +1,5 @@
 -- The solver at the whole numbers.
-use Rattle.std.proofs.Common.{◌≡◌, refl, ℕ, suc, ◌<◌, arith, ℤ, pos, negsuc, ◌+ℤ◌, ◌-ℤ◌, ◌*ℤ◌, neg_ℤ, ◌≤ℤ◌, ◌<ℤ◌, List}
+use Rattle.std.proofs.Common.{◌≡◌, refl, ℕ, suc, ◌<◌, arith, ℤ, pos, negsuc, ◌+ℤ◌, ◌-ℤ◌, ◌*ℤ◌, neg_ℤ, ◌≤ℤ◌, ◌<ℤ◌, List, [], ◌∷◌, subst}
 use Rattle.std.proofs.lemmas.Int.{ints}
 use lib.Signed.{lt_z_yes, shr_z}
 use Rattle.lam_fraction.proofs.Laws as Laws
@@ -131,3 +131,14 @@ product_within h k l m = Order.product_within ordered_integers h k l m
 pub floor_is : (n : ℤ) (m : ℕ) → 0 < m → ((shr_z n m *ℤ pos m) ≤ℤ n) × (n <ℤ (shr_z n m *ℤ pos m +ℤ pos m))
 floor_is (pos n) m h = omega (arith, ints)
 floor_is (negsuc n) m h = omega (arith, ints)
+
+-- a number whose square is at most that of another
+pub below_root : (z m : ℤ) → pos 0 <ℤ m → (z *ℤ z) ≤ℤ (m *ℤ m) → z ≤ℤ m
+below_root (negsuc z) m p h = omega (arith, ints)
+below_root (pos z) m p h = go (pos z) (number z) h
+  where
+    go : (z : ℤ) → pos 0 ≤ℤ z → (z *ℤ z) ≤ℤ (m *ℤ m) → z ≤ℤ m
+    go z least h = at_most_over {k = m +ℤ z} (omega (arith, ints, p, least)) (above h) (by_ring (z ∷ m ∷ []) (search quotes depth 20) refl)
+
+pub above_root : (z m : ℤ) → pos 0 <ℤ m → (z *ℤ z) ≤ℤ (m *ℤ m) → neg_ℤ z ≤ℤ m
+above_root z m p h = below_root (neg_ℤ z) m p (subst (λ x. x ≤ℤ (m *ℤ m)) (by_ring (z ∷ []) (search quotes depth 20) refl) h)

@@ -2,7 +2,7 @@
 use Rattle.std.proofs.Common.{◌≡◌, ◌≢◌, refl, pos, negsuc, [], ◌∷◌}
 use mathlib.Core.Quot.{sound}
 use Rattle.lam_fraction.specs.Fraction.{ℚ, class_of, whole, ◌+ℚ◌, ◌-ℚ◌, ◌*ℚ◌, ◌/ℚ◌, opposite, inverse, fraction, is_at_most, ◌≤ℚ◌, ◌<ℚ◌}
-use Rattle.lam_fraction.specs.Quotient.{of_two, on_one, on_two}
+use Rattle.lam_fraction.specs.inside.Quotient.{of_two, on_one, on_two}
 use Rattle.lam_fraction.specs.Sums.{total}
 use Rattle.lam_fraction.proofs.FractionRing.{product_inverse}
 use Rattle.lam_fraction.proofs.Rationals.{quotes, by_ring, from₁}

@@ -2,8 +2,8 @@
 -- once: pairs with equal cross products are one number, so that `≡` is equality of fractions.
 use Rattle.std.specs.Prelude.{ℤ, Bool, IsTrue, IsFalse}
 pub use Rattle.lam_fraction.specs.Pair.{Fraction, SameFraction, whole_pair, sum_pair, product_pair, opposite_pair, turned_over, inverse_pair, pair_at_most}
-use Rattle.lam_fraction.specs.CrossProducts.{sum_same, sum_turned, product_same, product_turned, opposite_same, inverse_same, at_most_same_left, at_most_same_right}
-use Rattle.lam_fraction.specs.Quotient.{of_two, on_one, on_two}
+use Rattle.lam_fraction.specs.inside.CrossProducts.{sum_same, sum_turned, product_same, product_turned, opposite_same, inverse_same, at_most_same_left, at_most_same_right}
+use Rattle.lam_fraction.specs.inside.Quotient.{of_two, on_one, on_two}
 use mathlib.Core.Quot.{Quot, mk, Quot-set}
 use mathlib.Core.Bool.{Bool-set}
 

@@ -1,7 +1,7 @@
 -- A fraction is a pair of whole numbers, a numerator and a denominator above 0. Two pairs are the same
 -- fraction where their cross products are equal, and pairs are added, multiplied and ordered by cross-multiplying.
 use Rattle.std.specs.Prelude.{◌≡◌, ℤ, pos, negsuc, ◌+ℤ◌, ◌*ℤ◌, neg_ℤ, ◌<ℤ◌, zero, suc, Bool, int_le}
-use Rattle.lam_fraction.specs.WholeNumbers.{one_positive, suc_positive, product_positive}
+use Rattle.lam_fraction.specs.inside.WholeNumbers.{one_positive, suc_positive, product_positive}
 
 pub record Fraction : Type 0 where
   pub num : ℤ

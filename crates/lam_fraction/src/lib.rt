@@ -1,4 +1,5 @@
-//! Fractions of whole numbers, and the laws of their sums, products and order by cross products.
+//! Fractions of whole numbers, the laws of their sums, products and order by cross products, and exact steps of
+//! machine numbers.
 #![tactic(auto)]
 
 ghost use Rattle.std.specs.Prelude.{pos, ◌<ℤ◌, ◌*ℤ◌, FitsSigned, OkIff};
@@ -7,7 +8,10 @@ ghost use Rattle.std.specs.Int.{w128};
 use num_traits::CheckedMul;
 use std::cmp::Ordering;
 
+// the laws of fractions
 pub mod cross_products;
+// exact products, sizes and casts
+pub mod machine;
 
 /// A fraction: `num` over `den`, which is above 0. It need not be in lowest terms, so one number has many
 /// fractions: two are equal where their cross products are, which is equality of their values.

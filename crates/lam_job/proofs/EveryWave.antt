@@ -3,8 +3,8 @@
 use Rattle.std.proofs.Common.{◌≡◌, refl, ◌∙◌, sym, ◌*◌, ℤ, pos, ◌*ℤ◌, ◌<ℤ◌, List, [], ◌∷◌, arith}
 use Rattle.std.proofs.lemmas.Int.{ints}
 use Rattle.lam_fraction.specs.Fraction.{ℚ, whole, fraction, class_of, ◌+ℚ◌, ◌-ℚ◌, ◌*ℚ◌, ◌/ℚ◌, inverse, is_at_most, ◌≤ℚ◌, ◌<ℚ◌}
-use Rattle.lam_fraction.specs.Quotient.{of_two, on_one, on_two}
-use Rattle.lam_fraction.specs.WholeNumbers.{product_positive}
+use Rattle.lam_fraction.specs.inside.Quotient.{of_two, on_one, on_two}
+use Rattle.lam_fraction.specs.inside.WholeNumbers.{product_positive}
 use Rattle.lam_fraction.proofs.Expression.{int, ◌⊗◌}
 use Rattle.lam_fraction.proofs.Solver.{◌≐◌}
 use Rattle.lam_fraction.proofs.Integers as integers
@@ -12,7 +12,7 @@ use Rattle.lam_fraction.proofs.FractionPairs.{fraction-equal, fraction-product, 
 use Rattle.lam_fraction.proofs.Rationals.{quotes, by_ring, from₁, at_most, at_most_over, square, ◌*ₙ◌, ◌*ₚ◌, above, weaken, positive_number, inverse_positive, transitive}
 use Rattle.lam_stock.specs.declared.item.Item.{Item}
 use Rattle.lam_stock.specs.PlyLaw.{two}
-use Rattle.lam_job.specs.declared.panel.Panel.{Panel}
+use Rattle.lam_job.specs.JobData.{PanelData}
 use Rattle.lam_job.specs.Plate.{stiffness_11, stiffness_12, stiffness_22, stiffness_66, circle_square, panel_load, PanelAtLeast}
 
 -- of two numbers whose product is a square, the sum is least where they are equal
@@ -48,7 +48,7 @@ unfolding fraction ◌/ℚ◌
 fraction_is_positive n d p q = (whole-lt (pos 0) n).1 p *ₚ inverse_positive ((whole-lt (pos 0) d).1 q)
 
 -- the load of the formula where a half wave is as long as the plate is wide
-abbrev pub load_at_the_least : List Item → Panel → ℚ
+abbrev pub load_at_the_least : List Item → PanelData → ℚ
 load_at_the_least wall panel =
     let b = panel.width *ℤ panel.width in
     circle_square
@@ -58,11 +58,9 @@ load_at_the_least wall panel =
     /ℚ whole (pos 1000000)
 
 -- what that load allows, every number of half waves does
-pub stands_in_every_wave : (wall : List Item) (panel : Panel) (r : ℚ) → whole (pos 0) ≤ℚ stiffness_11 wall → stiffness_22 wall ≡ stiffness_11 wall
+pub stands_in_every_wave : (wall : List Item) (panel : PanelData) (r : ℚ) → pos 0 <ℤ panel.length → pos 0 <ℤ panel.width → whole (pos 0) ≤ℚ stiffness_11 wall → stiffness_22 wall ≡ stiffness_11 wall
     → panel_load panel r ≤ℚ load_at_the_least wall panel → PanelAtLeast wall panel r
-stands_in_every_wave wall panel r stiff even least m some =
-    let long : pos 0 <ℤ panel.length = let l = panel.length_in_range.least in omega (arith, ints, l) in
-    let wide : pos 0 <ℤ panel.width = let l = panel.width_in_range.least in omega (arith, ints, l) in
+stands_in_every_wave wall panel r long wide stiff even least m some =
     let a = panel.length *ℤ panel.length in
     let b = panel.width *ℤ panel.width in
     let waves = pos (m * m) in

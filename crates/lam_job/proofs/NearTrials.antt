@@ -2,19 +2,16 @@
 use Rattle.std.proofs.Common.{◌≡◌, refl, true, false, ℕ, pos, ℤ, [], ◌∷◌, List, lit≤}
 use mathlib.Core.Quot.{sound}
 use Rattle.lam_fraction.specs.Fraction.{whole, fraction, class_of, ◌+ℚ◌, ◌-ℚ◌, ◌*ℚ◌, ◌/ℚ◌, opposite, inverse, is_at_most, ◌≤ℚ◌, ◌<ℚ◌}
-use Rattle.lam_fraction.specs.Quotient.{of_two, on_one, on_two}
+use Rattle.lam_fraction.specs.inside.Quotient.{of_two, on_one, on_two}
 use Rattle.lam_fraction.proofs.Rationals.{transitive}
 use Rattle.lam_stock.specs.declared.item.ItemNo.{ItemNo}
 use Rattle.lam_stock.specs.PlyLaw.{Side, Plus, Minus, reduced_11, reduced_12, reduced_22, reduced_66, cosine, sine}
 use Rattle.lam_stock.specs.TsaiWu.{criterion, tsai_wu, RatioAtLeast}
-use Rattle.lam_job.specs.declared.case.Case.{Case}
-use Rattle.lam_job.specs.declared.panel.Panel.{Panel}
-use Rattle.lam_job.specs.declared.job.Job.{Job}
-use Rattle.lam_job.specs.Ranges.{IsFactor}
-use Rattle.lam_job.specs.Strength.{Inner}
-use Rattle.lam_job.specs.Near.{just_below, just_above, PlyPlace, NearPly, NearPanel}
+use Rattle.lam_job.specs.JobData.{CaseData, PanelData, JobData}
+use Rattle.lam_job.specs.Strength.{InnerFace, PlyPlace}
+use Rattle.lam_job.specs.Near.{just_below, just_above, NearPly, NearPanel}
 use Rattle.lam_job.specs.Plate.{panel_load, buckling_load}
-use Rattle.lam_job.proofs.Worked.{mat, two_mats, number, square, hoop_case, hoop_case_at_6, tied_case, no_rules, job_of, plain_job, up_to_9}
+use Rattle.lam_job.proofs.Worked.{mat, two_mats, number, square, hoop_case, hoop_case_at_6, tied_case, no_rules, job_of, plain_job}
 use Rattle.lam_job.proofs.EveryWave.{load_at_the_least, stands_in_every_wave}
 use Rattle.lam_job.proofs.PlateTrials.{mats_are_stiff, mats_are_even, square_stands_2631}
 use Rattle.lam_job.proofs.OnePly.{alone, hoop, at_each_face, stretched, stretched_at_18}
@@ -50,20 +47,20 @@ load_of_a_panel = sound refl
 
 -- the inner face of the first ply under a case
 abbrev pub inside : (case : ℕ) → Side → PlyPlace
-inside case side = record { case = case; ply = 0; face = Inner; side = side }
+inside case side = record { case = case; ply = 0; face = InnerFace; side = side }
 
 -- the schedule of one ply
 abbrev pub one_mat : List ItemNo
 one_mat = number 0 ∷ []
 
 -- a job of one case
-abbrev pub one_case : Case → Job
-one_case case = plain_job 9 up_to_9 (case ∷ []) (lit≤ tt) (lit≤ tt)
+abbrev pub one_case : CaseData → JobData
+one_case case = plain_job 9 (case ∷ [])
 
 -- 100000 N/m are 20 MPa in every field, and near 5
 pub near_a_tie : NearPly alone (one_case tied_case) one_mat (inside 0 Plus)
 near_a_tie =
-    (tt, at_each_face (λ l t. RatioAtLeast l t (just_below (pos 5000)) × (whole (pos 1) ≤ℚ tsai_wu l t (just_above (pos 5000)))) (pos 20) (a_tie_holds_just_below, a_tie_fails_just_above) Inner Plus tt)
+    (tt, at_each_face (λ l t. RatioAtLeast l t (just_below (pos 5000)) × (whole (pos 1) ≤ℚ tsai_wu l t (just_above (pos 5000)))) (pos 20) (a_tie_holds_just_below, a_tie_fails_just_above) InnerFace Plus tt)
 
 -- 90000 N/m are 18 MPa, which stands 5.555 times: it does not fail by 201/200 of 5
 pub not_near_from_above : ¬ NearPly alone (one_case hoop_case) one_mat (inside 0 Plus)
@@ -88,17 +85,17 @@ not_near_under_a_second_case near = near
 abbrev two_plies : List ItemNo
 two_plies = number 0 ∷ number 0 ∷ []
 
-abbrev square_at : (factor : ℤ) → IsFactor factor → Panel
-square_at factor known = record square { factor = factor; factor_in_range = known }
+abbrev square_at : (factor : ℤ) → PanelData
+square_at factor = record square { factor = factor }
 
-abbrev one_panel : Panel → Job
-one_panel panel = job_of [] (lit≤ tt) false no_rules (panel ∷ []) (lit≤ tt)
+abbrev pub one_panel : PanelData → JobData
+one_panel panel = job_of [] false no_rules (panel ∷ [])
 
-abbrev square_at_2632 : Panel
-square_at_2632 = square_at (pos 2632) (record { least = record { le = tt }; greatest = record { le = tt } })
+abbrev square_at_2632 : PanelData
+square_at_2632 = square_at (pos 2632)
 
-abbrev square_at_3000 : Panel
-square_at_3000 = square_at (pos 3000) (record { least = record { le = tt }; greatest = record { le = tt } })
+abbrev square_at_3000 : PanelData
+square_at_3000 = square_at (pos 3000)
 
 -- a half wave as long as the width allows 199/200 of 2.632
 least_allows_just_below_2632 : panel_load square_at_2632 (just_below (pos 2632)) ≤ℚ load_at_the_least two_mats square_at_2632
@@ -113,7 +110,7 @@ buckles_just_above_2632 = record { le = refl }
 -- so it is near 2.632
 near_at_a_panel : NearPanel alone (one_panel square_at_2632) two_plies 0
 near_at_a_panel = record {
-  stands = stands_in_every_wave two_mats square_at_2632 (just_below (pos 2632)) mats_are_stiff mats_are_even least_allows_just_below_2632;
+  stands = stands_in_every_wave two_mats square_at_2632 (just_below (pos 2632)) (record { lt = tt }) (record { lt = tt }) mats_are_stiff mats_are_even least_allows_just_below_2632;
   buckles = (1, lit≤ tt, buckles_just_above_2632);
 }
 

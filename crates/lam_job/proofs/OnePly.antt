@@ -1,25 +1,24 @@
 -- One ply of `mat` under a force round the wall: every field of it has the same stress across at both faces, the force
 -- over the thickness, and no other stress.
-use Rattle.std.proofs.Common.{◌≡◌, refl, sym, ◌∙◌, ap, subst, ℕ, zero, suc, ◌<◌, ◌≤◌, ℤ, pos, negsuc, ◌*ℤ◌, List, [], ◌∷◌, length, Some, None, true, false, arith}
+use Rattle.std.proofs.Common.{◌≡◌, refl, sym, ◌∙◌, ap, subst, ℕ, zero, suc, ◌<◌, ◌≤◌, ℤ, pos, negsuc, ◌*ℤ◌, List, [], ◌∷◌, Some, None, true, false, arith}
 use Rattle.std.specs.Option.{unwrap_or}
 use Rattle.std.proofs.lemmas.List.Elements.{All-nil}
 use mathlib.Core.Quot.{sound}
 use Rattle.lam_fraction.specs.Fraction.{ℚ, whole, fraction, class_of, ◌+ℚ◌, ◌-ℚ◌, ◌*ℚ◌, ◌/ℚ◌, opposite, inverse}
-use Rattle.lam_fraction.specs.Quotient.{of_two, on_one, on_two}
+use Rattle.lam_fraction.specs.inside.Quotient.{of_two, on_one, on_two}
 use Rattle.lam_fraction.proofs.FractionRing.{whole-product}
 use Rattle.lam_fraction.proofs.Rationals.{quotes, by_ring, from₂, positive_number, same_without_factor}
 use Rattle.lam_stock.specs.declared.item.Item.{Item}
 use Rattle.lam_stock.specs.declared.item.Lamina.{Lamina}
 use Rattle.lam_stock.specs.declared.item.ItemNo.{ItemNo}
-use Rattle.lam_stock.specs.PlyLaw.{InPly, Side, Plus, Minus, two, reduced_11, reduced_12, reduced_22, reduced_66, cosine, sine}
+use Rattle.lam_stock.specs.PlyLaw.{OnAxis, Side, Plus, Minus, two, reduced_11, reduced_12, reduced_22, reduced_66, cosine, sine}
 use Rattle.lam_stock.specs.TsaiWu.{RatioAtLeast}
 use Rattle.lam_job.specs.declared.load.Load.{Load}
-use Rattle.lam_job.specs.declared.case.Case.{Case}
-use Rattle.lam_job.specs.Ranges.{IsPlyNumber}
+use Rattle.lam_job.specs.JobData.{CaseData}
 use Rattle.lam_job.specs.Wall.{Placed}
-use Rattle.lam_job.specs.Field.{Field}
+use Rattle.lam_job.specs.LaminateStrain.{LaminateStrain}
 use Rattle.lam_job.specs.Equilibrium.{Solves}
-use Rattle.lam_job.specs.Strength.{Face, Inner, Outer, HasSide, stress_at, EverySolution, RatioThere, PlyRatio}
+use Rattle.lam_job.specs.Strength.{Face, InnerFace, OuterFace, HasSide, stress_at, EverySolution, RatioThere, PlyRatio}
 use Rattle.lam_job.specs.Rules as rules
 use Rattle.lam_job.specs.Rules.{Keeps}
 use Rattle.lam_job.proofs.Worked.{mat, number, forces, plain_job}
@@ -37,7 +36,7 @@ abbrev pub round : ℤ → Load
 round n = forces (pos 0) (pos 20000 *ℤ n) (pos 0)
 
 -- n MPa across the fibres, and no other stress
-abbrev pub hoop : ℤ → InPly
+abbrev pub hoop : ℤ → OnAxis
 hoop n = record { along = whole (pos 0); across = whole n; shear = whole (pos 0) }
 
 -- ---- every field
@@ -71,33 +70,33 @@ module _ (a b n : ℚ) (force : whole (pos 10000) *ℚ (a +ℚ b) +ℚ whole (po
   outer_is = same_without_factor (whole (pos 50000000)) (positive_number 49999999) (from₂ (whole (pos 2500)) force (whole (pos 1)) moment (by_ring (a ∷ b ∷ n ∷ []) (search quotes depth 40 fits 9000) refl))
 
 -- a stress is n MPa across the fibres, and no other
-abbrev IsHoop : ℤ → InPly → Type 0
+abbrev IsHoop : ℤ → OnAxis → Type 0
 IsHoop n t = (t.along ≡ whole (pos 0)) × (t.across ≡ whole n) × (t.shear ≡ whole (pos 0))
 
 -- so it is at both faces in every field
-face_is_hoop : (n : ℤ) (face : Face) (f : Field) → Solves alone (round n) f → IsHoop n (stress_at f placed face Plus)
-face_is_hoop n Inner f s =
-    let a = stress_at f placed Inner Plus in (
+face_is_hoop : (n : ℤ) (face : Face) (f : LaminateStrain) → Solves alone (round n) f → IsHoop n (stress_at f placed face Plus)
+face_is_hoop n InnerFace f s =
+    let a = stress_at f placed InnerFace Plus in (
       sym (along_is_x _ _ a.along a.across a.shear cosine_is_1 sine_is_0) ∙ inner_is _ _ (whole (pos 0)) (s.nx ∙ whole-product (pos 20000) (pos 0)) s.mx,
       sym (across_is_y _ _ a.along a.across a.shear cosine_is_1 sine_is_0) ∙ inner_is _ _ (whole n) (s.ny ∙ whole-product (pos 20000) n) s.my,
       sym (shear_is_s _ _ a.along a.across a.shear cosine_is_1 sine_is_0) ∙ inner_is _ _ (whole (pos 0)) (s.nxy ∙ whole-product (pos 20000) (pos 0)) s.mxy,
     )
-face_is_hoop n Outer f s =
-    let b = stress_at f placed Outer Plus in (
+face_is_hoop n OuterFace f s =
+    let b = stress_at f placed OuterFace Plus in (
       sym (along_is_x _ _ b.along b.across b.shear cosine_is_1 sine_is_0) ∙ outer_is _ _ (whole (pos 0)) (s.nx ∙ whole-product (pos 20000) (pos 0)) s.mx,
       sym (across_is_y _ _ b.along b.across b.shear cosine_is_1 sine_is_0) ∙ outer_is _ _ (whole n) (s.ny ∙ whole-product (pos 20000) n) s.my,
       sym (shear_is_s _ _ b.along b.across b.shear cosine_is_1 sine_is_0) ∙ outer_is _ _ (whole (pos 0)) (s.nxy ∙ whole-product (pos 20000) (pos 0)) s.mxy,
     )
 
 -- what is said of the hoop stress is said of each stress that is equal to it
-said_of : (So : InPly → Type 0) (n : ℤ) (t : InPly) → IsHoop n t → So (hoop n) → So t
+said_of : (So : OnAxis → Type 0) (n : ℤ) (t : OnAxis) → IsHoop n t → So (hoop n) → So t
 said_of So n t e so =
     subst (λ x. So (record { along = x; across = t.across; shear = t.shear })) (sym e.0)
     (subst (λ y. So (record { along = whole (pos 0); across = y; shear = t.shear })) (sym e.1)
     (subst (λ z. So (record { along = whole (pos 0); across = whole n; shear = z })) (sym e.2) so))
 
 -- what is said of `mat` at the hoop stress is so for every field, at both faces and on its side
-pub at_each_face : (So : Lamina → InPly → Type 0) (n : ℤ) → So mat.lamina (hoop n)
+pub at_each_face : (So : Lamina → OnAxis → Type 0) (n : ℤ) → So mat.lamina (hoop n)
     → (face : Face) (side : Side) → HasSide mat.kind side → EverySolution alone (round n) placed face side So
 at_each_face So n so face Plus has f s = said_of (So mat.lamina) n (stress_at f placed face Plus) (face_is_hoop n face f s) so
 at_each_face So n so face Minus has f s = absurd has
@@ -112,9 +111,9 @@ ratio_of_mat n r meets (suc ply) p e = absurd (let no : None ≡ Some p = e in c
 -- ---- a field that there is
 
 -- a strain of n MPa over 10000 MPa round the wall
-abbrev pub stretched : ℤ → Field
+abbrev pub stretched : ℤ → LaminateStrain
 stretched n = record {
-  strain = record { x = whole (pos 0); y = fraction n (pos 10000); s = whole (pos 0) };
+  mid_plane = record { x = whole (pos 0); y = fraction n (pos 10000); s = whole (pos 0) };
   curvature = record { x = whole (pos 0); y = whole (pos 0); s = whole (pos 0) };
 }
 
@@ -130,14 +129,13 @@ stretched_at_24 = record { nx = sound refl; ny = sound refl; nxy = sound refl; m
 -- ---- the rules
 
 -- where no rule is asked, the schedule of this ply keeps all
-pub keeps_no_rule : (limit : ℕ) (known : IsPlyNumber limit) (cases : List Case) (some : 1 ≤ length cases) (few : length cases ≤ 16)
-    → Keeps alone (plain_job limit known cases some few) (number 0 ∷ [])
-keeps_no_rule limit known cases some few rules.Inner = tt
-keeps_no_rule limit known cases some few rules.Outer = tt
-keeps_no_rule limit known cases some few rules.Symmetric = λ e. refl
-keeps_no_rule limit known cases some few rules.Balanced = λ e. absurd (let n : false ≡ true = e in cc)
-keeps_no_rule limit known cases some few rules.Run = tt
-keeps_no_rule limit known cases some few rules.Fewest = tt
-keeps_no_rule limit known cases some few rules.Thickness = tt
-keeps_no_rule limit known cases some few rules.Counts = All-nil (λ (count : ItemNo × ℕ). count.1 ≤ rules.times_of count.0 (number 0 ∷ []))
-keeps_no_rule limit known cases some few rules.Fitness = λ h. absurd (let n : 0 < 0 = h in omega (arith, n))
+pub keeps_no_rule : (limit : ℕ) (cases : List CaseData) → Keeps alone (plain_job limit cases) (number 0 ∷ [])
+keeps_no_rule limit cases rules.InnerRule = tt
+keeps_no_rule limit cases rules.OuterRule = tt
+keeps_no_rule limit cases rules.SymmetricRule = λ e. refl
+keeps_no_rule limit cases rules.BalancedRule = λ e. absurd (let n : false ≡ true = e in cc)
+keeps_no_rule limit cases rules.RunRule = tt
+keeps_no_rule limit cases rules.FewestRule = tt
+keeps_no_rule limit cases rules.ThicknessRule = tt
+keeps_no_rule limit cases rules.CountsRule = All-nil (λ (count : ItemNo × ℕ). count.1 ≤ rules.times_of count.0 (number 0 ∷ []))
+keeps_no_rule limit cases rules.FitnessRule = λ h. absurd (let n : 0 < 0 = h in omega (arith, n))

@@ -2,7 +2,7 @@
 use Rattle.std.proofs.Common.{◌≡◌, refl, sym, ◌∙◌, ap, subst, ℕ, zero, suc, ◌+◌, ◌<◌, ◌≤◌, pos, List, [], ◌∷◌, length, take, drop, replicate, slice_index_or, Some, Bool, true, false, inl, inr, lit<, lit≤, arith}
 use Rattle.std.proofs.lemmas.List.Elements.{All-from_recursion}
 use Rattle.lam_stock.specs.declared.item.ItemNo.{ItemNo}
-use Rattle.lam_job.specs.declared.job.Job.{Job}
+use Rattle.lam_job.specs.JobData.{JobData}
 use Rattle.lam_job.specs.Schedule.{wall_of, cost_of}
 use Rattle.lam_job.specs.Rules.{times_of}
 use Rattle.lam_job.specs.Design.{IsSequence}
@@ -12,14 +12,14 @@ use Rattle.lam_job.proofs.RuleTrials.{number_at, even_set, lean_is_slanted, noth
 
 -- ---- a job with symmetric schedules and a liner of `stiff`, which carries load or not; it asks four plies of number 1
 
-abbrev lined : (liner_in_wall : Bool) → Job
-lined in_wall = job_of (number 4 ∷ []) (lit≤ tt) in_wall (rules_of true (number 1)) [] (lit≤ tt)
+abbrev lined : (liner_in_wall : Bool) → JobData
+lined in_wall = job_of (number 4 ∷ []) in_wall (rules_of true (number 1)) []
 
 -- the same with free schedules, and with a panel
-abbrev free : Job
-free = job_of (number 4 ∷ []) (lit≤ tt) true (rules_of false (number 1)) (square ∷ []) (lit≤ tt)
+abbrev free : JobData
+free = job_of (number 4 ∷ []) true (rules_of false (number 1)) (square ∷ [])
 
-abbrev partial : ℕ → List ItemNo → Partial
+abbrev pub partial : ℕ → List ItemNo → Partial
 partial n prefix = record { n = n; prefix = prefix }
 
 abbrev two_of_five : Partial
@@ -157,7 +157,7 @@ count_may_do few = enough_open few.0 few.1 few.2 few.3 few.4 where
 unfit_by_the_liner : IsUnfit catalogue free []
 unfit_by_the_liner = (lit< tt, inl (lit< tt, refl))
 
-unfit_by_a_slanted_ply : IsUnfit catalogue (job_of [] (lit≤ tt) true (rules_of false (number 0)) (square ∷ []) (lit≤ tt)) (number 1 ∷ [])
+unfit_by_a_slanted_ply : IsUnfit catalogue (job_of [] true (rules_of false (number 0)) (square ∷ [])) (number 1 ∷ [])
 unfit_by_a_slanted_ply = (lit< tt, inr (0, lean, lit< tt, refl, lean_is_slanted))
 
 fit_where_no_panel_is_asked : ¬ IsUnfit catalogue (lined true) (number 1 ∷ [])

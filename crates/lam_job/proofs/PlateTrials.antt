@@ -2,7 +2,7 @@
 use Rattle.std.proofs.Common.{◌≡◌, refl, lit≤, ◌*◌, ◌^◌, true, false, pos, [], ◌∷◌}
 use mathlib.Core.Quot.{sound}
 use Rattle.lam_fraction.specs.Fraction.{whole, fraction, class_of, ◌+ℚ◌, ◌-ℚ◌, ◌*ℚ◌, ◌/ℚ◌, opposite, inverse, is_at_most, ◌≤ℚ◌, ◌<ℚ◌}
-use Rattle.lam_fraction.specs.Quotient.{of_two, on_one, on_two}
+use Rattle.lam_fraction.specs.inside.Quotient.{of_two, on_one, on_two}
 use Rattle.lam_stock.specs.PlyLaw.{reduced_11, reduced_12, reduced_22, reduced_66, cosine, sine}
 use Rattle.lam_job.specs.Plate.{stiffness_11, stiffness_12, stiffness_22, stiffness_66, buckling_load, panel_load, PanelAtLeast}
 use Rattle.lam_job.proofs.Worked.{glass, square, long, two_mats}
@@ -61,7 +61,7 @@ square_is_short_of_2632 stands = let e : false ≡ true = (stands 1 (lit≤ tt))
 
 -- whatever the number of half waves, it stands 2.631 times that
 pub square_stands_2631 : PanelAtLeast two_mats square (whole (pos 2631))
-square_stands_2631 = stands_in_every_wave two_mats square (whole (pos 2631)) mats_are_stiff mats_are_even least_allows_2631
+square_stands_2631 = stands_in_every_wave two_mats square (whole (pos 2631)) (record { lt = tt }) (record { lt = tt }) mats_are_stiff mats_are_even least_allows_2631
 
 -- ---- at 1000 mm of length the least load is that of two half waves
 
@@ -89,7 +89,7 @@ long_is_short_of_2632 stands = let e : false ≡ true = (stands 2 (lit≤ tt)).l
 
 -- whatever the number of half waves, it stands 2.631 times that, as the square one does
 long_stands_2631 : PanelAtLeast two_mats long (whole (pos 2631))
-long_stands_2631 = stands_in_every_wave two_mats long (whole (pos 2631)) mats_are_stiff mats_are_even least_allows_2631
+long_stands_2631 = stands_in_every_wave two_mats long (whole (pos 2631)) (record { lt = tt }) (record { lt = tt }) mats_are_stiff mats_are_even least_allows_2631
 
 -- ---- glass, stiff along its length: 10394.18 N/m in three half waves, where the exchanged stiffnesses give 5506.63
 

@@ -5,8 +5,8 @@ use Rattle.std.proofs.lemmas.List.Elements.{All-from_recursion}
 use Rattle.lam_stock.specs.declared.item.Kind.TheVariants.{Ply, Pair}
 use Rattle.lam_stock.specs.declared.item.ItemNo.{ItemNo}
 use Rattle.lam_job.specs.declared.rules.ItemSet.{ItemSet}
-use Rattle.lam_job.specs.declared.job.Job.{Job}
-use Rattle.lam_job.specs.Rules.{KeepsInner, KeepsOuter, KeepsSymmetric, KeepsBalanced, KeepsRun, KeepsFewest, KeepsThickness, KeepsCounts, KeepsFitness, IsSlanted, IsBalanced, times_of, Breaks, Symmetric}
+use Rattle.lam_job.specs.JobData.{JobData}
+use Rattle.lam_job.specs.Rules.{KeepsInner, KeepsOuter, KeepsSymmetric, KeepsBalanced, KeepsRun, KeepsFewest, KeepsThickness, KeepsCounts, KeepsFitness, IsSlanted, IsBalanced, times_of, Breaks, SymmetricRule}
 use Rattle.lam_job.proofs.Worked.{mat, lean, pair, catalogue, number, square, rules_of, job_of}
 
 -- the number of the item at a place, and 9 past the end
@@ -108,10 +108,10 @@ counts_broken kept = let e : 2 ≤ 1 = kept 0 (record { 0 = number 1; 1 = 2 }) (
 
 -- ---- fitness, with a panel, and a liner in the wall or out of it
 
-abbrev panel_job : (liner : List ItemNo) → length liner ≤ 8 → (liner_in_wall : Bool) → Job
-panel_job liner short in_wall = job_of liner short in_wall (rules_of false (number 0)) (square ∷ []) (lit≤ tt)
+abbrev panel_job : (liner : List ItemNo) (liner_in_wall : Bool) → JobData
+panel_job liner in_wall = job_of liner in_wall (rules_of false (number 0)) (square ∷ [])
 
-fitness_kept : KeepsFitness catalogue (panel_job (number 1 ∷ []) (lit≤ tt) false) (number 0 ∷ number 3 ∷ number 0 ∷ [])
+fitness_kept : KeepsFitness catalogue (panel_job (number 1 ∷ []) false) (number 0 ∷ number 3 ∷ number 0 ∷ [])
 fitness_kept asked = record {
   liner = λ l. let e : false ≡ true = l.1 in cc;
   symmetric = refl;
@@ -119,16 +119,16 @@ fitness_kept asked = record {
 }
 
 -- the same with the liner in the wall
-fitness_broken_by_the_liner : ¬ KeepsFitness catalogue (panel_job (number 1 ∷ []) (lit≤ tt) true) (number 0 ∷ number 3 ∷ number 0 ∷ [])
+fitness_broken_by_the_liner : ¬ KeepsFitness catalogue (panel_job (number 1 ∷ []) true) (number 0 ∷ number 3 ∷ number 0 ∷ [])
 fitness_broken_by_the_liner kept = (kept (lit< tt)).liner (lit< tt, refl)
 
-fitness_broken_by_the_order : ¬ KeepsFitness catalogue (panel_job [] (lit≤ tt) true) (number 0 ∷ number 3 ∷ [])
+fitness_broken_by_the_order : ¬ KeepsFitness catalogue (panel_job [] true) (number 0 ∷ number 3 ∷ [])
 fitness_broken_by_the_order kept = let e : ◌≡◌ {A = ℕ} 0 3 = ap (number_at 0) (kept (lit< tt)).symmetric in omega arith
 
-fitness_broken_by_a_slanted_ply : ¬ KeepsFitness catalogue (panel_job [] (lit≤ tt) true) (number 1 ∷ [])
+fitness_broken_by_a_slanted_ply : ¬ KeepsFitness catalogue (panel_job [] true) (number 1 ∷ [])
 fitness_broken_by_a_slanted_ply kept = (kept (lit< tt)).straight 0 lean (lit< tt) lean_is_slanted
 
 -- ---- the number that a broken rule is named by
 
-unsymmetric_breaks_rule_3 : Breaks 3 catalogue (job_of [] (lit≤ tt) false (rules_of true (number 0)) [] (lit≤ tt)) (number 0 ∷ number 1 ∷ [])
-unsymmetric_breaks_rule_3 = (Symmetric, refl, symmetric_broken)
+unsymmetric_breaks_rule_3 : Breaks 3 catalogue (job_of [] false (rules_of true (number 0)) []) (number 0 ∷ number 1 ∷ [])
+unsymmetric_breaks_rule_3 = (SymmetricRule, refl, symmetric_broken)

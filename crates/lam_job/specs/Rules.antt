@@ -1,4 +1,4 @@
--- The nine rules of a job, each of the listed plies from the inside to the outside. A rule that the job does not ask
+-- The nine rules of a job. Each speaks of the listed plies, from the inside to the outside. A rule that the job does not ask
 -- is kept.
 use Rattle.std.specs.Prelude.{◌≡◌, ℕ, ℤ, suc, ◌≤◌, ◌<◌, ◌==◌, ◌≤ℤ◌, List, reverse, length, take, drop, replicate, count_by, All, slice_get, Bool, IsTrue, IfSome, IsSomeAnd, IsBitSet, Option}
 use Rattle.lam_direction.specs.Circle.{IsOnAxis}
@@ -7,7 +7,7 @@ use Rattle.lam_stock.specs.declared.item.ItemNo.{ItemNo}
 use Rattle.lam_stock.specs.declared.item.Kind.TheVariants.{Ply}
 use Rattle.lam_stock.specs.Likeness.{are_alike, are_mirrors}
 use Rattle.lam_job.specs.declared.rules.ItemSet.{ItemSet}
-use Rattle.lam_job.specs.declared.job.Job.{Job}
+use Rattle.lam_job.specs.JobData.{JobData}
 use Rattle.lam_job.specs.Schedule.{items_of, wall_of}
 use Rattle.lam_job.specs.Wall.{wall_thickness}
 
@@ -79,59 +79,64 @@ abbrev pub KeepsCounts : List (ItemNo × ℕ) → List ItemNo → Type 0
 KeepsCounts asked listed = All (λ count. count.1 ≤ times_of count.0 listed) asked
 
 -- the liner carries load and is not empty
-abbrev pub LinerCarries : Job → Type 0
+abbrev pub LinerCarries : JobData → Type 0
 LinerCarries job = (0 < length job.liner) × IsTrue job.liner_in_wall
 
 -- the wall is a plate that the buckling formula speaks of: the same from both faces, without a slanted ply
-pub record Fit (stock : List Item) (job : Job) (listed : List ItemNo) : Type 0 where
+pub record Fit (stock : List Item) (job : JobData) (listed : List ItemNo) : Type 0 where
   pub liner : ¬ LinerCarries job
   pub symmetric : IsPalindrome listed
   pub straight : All (λ i. ¬ IsSlanted i) (items_of stock listed)
 
 -- where a panel is asked, the wall is fit for it
-abbrev pub KeepsFitness : List Item → Job → List ItemNo → Type 0
+abbrev pub KeepsFitness : List Item → JobData → List ItemNo → Type 0
 KeepsFitness stock job listed = 0 < length job.panels → Fit stock job listed
 
 -- ---- all of them
 
 pub data Rule : Type 0 where
-  Inner : Rule
-  Outer : Rule
-  Symmetric : Rule
-  Balanced : Rule
-  Run : Rule
-  Fewest : Rule
-  Thickness : Rule
-  Counts : Rule
-  Fitness : Rule
+  InnerRule : Rule
+  OuterRule : Rule
+  SymmetricRule : Rule
+  BalancedRule : Rule
+  RunRule : Rule
+  FewestRule : Rule
+  ThicknessRule : Rule
+  CountsRule : Rule
+  FitnessRule : Rule
 
 -- the number by which a report names a rule
-abbrev pub number_of : Rule → ℕ
-number_of Inner = 1
-number_of Outer = 2
-number_of Symmetric = 3
-number_of Balanced = 4
-number_of Run = 5
-number_of Fewest = 6
-number_of Thickness = 7
-number_of Counts = 8
-number_of Fitness = 9
+abbrev pub rule_number : Rule → ℕ
+rule_number InnerRule = 1
+rule_number OuterRule = 2
+rule_number SymmetricRule = 3
+rule_number BalancedRule = 4
+rule_number RunRule = 5
+rule_number FewestRule = 6
+rule_number ThicknessRule = 7
+rule_number CountsRule = 8
+rule_number FitnessRule = 9
 
-abbrev pub KeepsRule : Rule → List Item → Job → List ItemNo → Type 0
-KeepsRule Inner stock job listed = KeepsInner job.rules.inner listed
-KeepsRule Outer stock job listed = KeepsOuter job.rules.outer listed
-KeepsRule Symmetric stock job listed = KeepsSymmetric job.rules.symmetric listed
-KeepsRule Balanced stock job listed = KeepsBalanced stock job.rules.balanced listed
-KeepsRule Run stock job listed = KeepsRun job.rules.run listed
-KeepsRule Fewest stock job listed = KeepsFewest job.rules.fewest listed
-KeepsRule Thickness stock job listed = KeepsThickness job.rules.thickness (wall_of stock job listed)
-KeepsRule Counts stock job listed = KeepsCounts job.rules.counts listed
-KeepsRule Fitness stock job listed = KeepsFitness stock job listed
+abbrev pub KeepsRule : Rule → List Item → JobData → List ItemNo → Type 0
+KeepsRule InnerRule stock job listed = KeepsInner job.rules.inner listed
+KeepsRule OuterRule stock job listed = KeepsOuter job.rules.outer listed
+KeepsRule SymmetricRule stock job listed = KeepsSymmetric job.rules.symmetric listed
+KeepsRule BalancedRule stock job listed = KeepsBalanced stock job.rules.balanced listed
+KeepsRule RunRule stock job listed = KeepsRun job.rules.run listed
+KeepsRule FewestRule stock job listed = KeepsFewest job.rules.fewest listed
+KeepsRule ThicknessRule stock job listed = KeepsThickness job.rules.thickness (wall_of stock job listed)
+KeepsRule CountsRule stock job listed = KeepsCounts job.rules.counts listed
+KeepsRule FitnessRule stock job listed = KeepsFitness stock job listed
 
 -- a schedule keeps the nine rules
-abbrev pub Keeps : List Item → Job → List ItemNo → Type 0
+abbrev pub Keeps : List Item → JobData → List ItemNo → Type 0
 Keeps stock job listed = (rule : Rule) → KeepsRule rule stock job listed
 
 -- a schedule breaks the rule of a number
-abbrev pub Breaks : ℕ → List Item → Job → List ItemNo → Type 0
-Breaks number stock job listed = (rule : Rule) × (number_of rule ≡ number) × (¬ KeepsRule rule stock job listed)
+abbrev pub Breaks : ℕ → List Item → JobData → List ItemNo → Type 0
+Breaks number stock job listed = (rule : Rule) × (rule_number rule ≡ number) × (¬ KeepsRule rule stock job listed)
+
+-- the number is that of the first rule in their order that the schedule breaks
+pub record IsLeastBroken (number : ℕ) (stock : List Item) (job : JobData) (listed : List ItemNo) : Type 0 where
+  pub broken : Breaks number stock job listed
+  pub least : (other : ℕ) → other < number → ¬ Breaks other stock job listed

@@ -1,6 +1,6 @@
 // The cases of load of a job.
 
-ghost use Rattle.lam_job.specs.Ranges.{IsFactor, KindInRange};
+use std::marker::Model;
 
 /// How a case loads the wall. Forces are in N/m and moments in mN, both per length of wall.
 #[derive(Clone, Copy, PartialEq, Eq, Debug)]
@@ -31,6 +31,18 @@ pub enum CaseKind {
 pub struct Case {
     pub kind: CaseKind,
     pub factor: i64,
-    pub ghost kind_in_range: { KindInRange kind },
-    pub ghost factor_in_range: { IsFactor factor },
+}
+
+impl Model for Case {
+    ghost use Rattle.lam_job.specs.JobData.{CaseData};
+
+    ghost Value = { CaseData };
+
+    ghost use Rattle.lam_job.specs.Ranges.{IsCase};
+
+    ghost view = { λ c. record { kind = c.kind; factor = c.factor } };
+
+    ghost invariant = { λ c. IsCase (record { kind = c.kind; factor = c.factor }) };
+
+    ghost inverse = { λ c. record { kind = c.kind; factor = c.factor } };
 }

@@ -27,7 +27,7 @@ pub enum JobKey {
     Version,
     Limit,
     Plies,
-    InWall,
+    OffAxis,
     Inner,
     Outer,
     Symmetric,

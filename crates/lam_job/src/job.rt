@@ -1,11 +1,11 @@
 // The job.
 
-ghost use Rattle.std.specs.Prelude.{◌≤◌, length};
-ghost use Rattle.lam_job.specs.Ranges.{IsPlyNumber};
-
-use crate::lists::{Cases, Panels};
+use crate::case::Case;
+use crate::entries::Entries;
+use crate::panel::Panel;
 use crate::rules::RuleSet;
 use lam_stock::Stack;
+use std::marker::Model;
 
 /// What a design has to meet.
 #[derive(Drop)]
@@ -19,12 +19,20 @@ pub struct Job {
     /// What the listed plies have to keep.
     pub rules: RuleSet,
     /// What the wall is loaded with.
-    pub cases: Cases,
+    pub cases: Entries<Case>,
     /// Where the wall must not buckle.
-    pub panels: Panels,
-    pub ghost limit_in_range: { IsPlyNumber limit },
-    pub ghost short_liner: { length liner ≤ 8 },
-    pub ghost some_case: { 1 ≤ length cases },
-    pub ghost few_cases: { length cases ≤ 16 },
-    pub ghost few_panels: { length panels ≤ 8 },
+    pub panels: Entries<Panel>,
+}
+
+impl Model for Job {
+    ghost use Rattle.lam_job.specs.JobData.{JobData};
+
+    ghost Value = { JobData };
+
+    ghost use Rattle.lam_job.specs.inside.Views.{job_data};
+    ghost use Rattle.lam_job.specs.Ranges.{IsJob};
+
+    ghost view = { job_data };
+
+    ghost invariant = { λ job. IsJob (job_data job) };
 }

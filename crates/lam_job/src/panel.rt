@@ -1,6 +1,6 @@
 // The panels of a job.
 
-ghost use Rattle.lam_job.specs.Ranges.{IsFactor, IsPanelSide, IsPanelLoad};
+use std::marker::Model;
 
 /// A simply supported flat panel of the wall, compressed along its length.
 #[derive(Clone, Copy, Debug)]
@@ -13,8 +13,18 @@ pub struct Panel {
     pub load: i64,
     /// How many times the load the panel has to stand, in thousandths.
     pub factor: i64,
-    pub ghost length_in_range: { IsPanelSide length },
-    pub ghost width_in_range: { IsPanelSide width },
-    pub ghost load_in_range: { IsPanelLoad load },
-    pub ghost factor_in_range: { IsFactor factor },
+}
+
+impl Model for Panel {
+    ghost use Rattle.lam_job.specs.JobData.{PanelData};
+
+    ghost Value = { PanelData };
+
+    ghost use Rattle.lam_job.specs.Ranges.{IsPanel};
+
+    ghost view = { λ p. record { length = p.length; width = p.width; load = p.load; factor = p.factor } };
+
+    ghost invariant = { λ p. IsPanel (record { length = p.length; width = p.width; load = p.load; factor = p.factor }) };
+
+    ghost inverse = { λ p. record { length = p.length; width = p.width; load = p.load; factor = p.factor } };
 }

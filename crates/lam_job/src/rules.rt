@@ -1,10 +1,8 @@
 // The rules that a schedule has to keep.
 
-ghost use Rattle.std.specs.Prelude.{◌<◌, All};
-ghost use Rattle.std.specs.Option.{ForSome};
-ghost use Rattle.lam_job.specs.Ranges.{IsPlyNumber, IsRuleThickness};
-
-use crate::lists::Counts;
+use crate::entries::Entries;
+use lam_stock::ItemNo;
+use std::marker::Model;
 
 /// A set of catalogue items: bit k stands for the item of number k.
 #[derive(Clone, Copy, PartialEq, Eq, Debug)]
@@ -28,11 +26,18 @@ pub struct RuleSet {
     /// The least thickness of the wall, in µm.
     pub thickness: Option<i64>,
     /// The least number of plies of some items.
-    pub counts: Counts,
-    pub ghost inner_names: { ForSome inner (λ set. 0 < set.0) },
-    pub ghost outer_names: { ForSome outer (λ set. 0 < set.0) },
-    pub ghost run_in_range: { ForSome run IsPlyNumber },
-    pub ghost fewest_in_range: { ForSome fewest IsPlyNumber },
-    pub ghost thickness_in_range: { ForSome thickness IsRuleThickness },
-    pub ghost counts_in_range: { All (λ count. IsPlyNumber count.1) counts },
+    pub counts: Entries<(ItemNo, u8)>,
+}
+
+impl Model for RuleSet {
+    ghost use Rattle.lam_job.specs.JobData.{RuleData};
+
+    ghost Value = { RuleData };
+
+    ghost use Rattle.lam_job.specs.inside.Views.{rule_data};
+    ghost use Rattle.lam_job.specs.Ranges.{AreRules};
+
+    ghost view = { rule_data };
+
+    ghost invariant = { λ r. AreRules (rule_data r) };
 }

@@ -1,7 +1,7 @@
-// The load of a case, and the lists of a job.
+//! The load of a case, and the parts of a job.
 
-use crate::{Case, CaseKind, Cases, Counts, Panel, Panels, resultants};
-use lam_stock::ItemNo;
+use crate::{Case, CaseKind, Entries, ItemSet, Job, Panel, RuleSet, resultants};
+use lam_stock::{ItemNo, Stack};
 use std::test::Fail;
 
 #[test]
@@ -40,11 +40,49 @@ fn lists_give_back_their_items(rt: HostRuntime) -> Result<(), Fail> {
         load: 50000,
         factor: 2000,
     };
-    let cases = Cases::of(vec![in rt.alloc(); case]?);
-    let panels = Panels::of(vec![in rt.alloc(); panel]?);
-    let counts = Counts::of(vec![in rt.alloc(); (ItemNo(1), 2)]?);
+    let cases = Entries::of(vec![in rt.alloc(); case]?);
+    let panels = Entries::of(vec![in rt.alloc(); panel]?);
+    let counts = Entries::of(vec![in rt.alloc(); (ItemNo(1), 2)]?);
     assert_eq!(rt; resultants(&cases.items()[0]).ny, 360000);
-    assert_eq!(rt; panels.items()[0].load, 50000);
+    let first = &panels.items()[0];
+    assert_eq!(rt; first.load, 50000);
     assert_eq!(rt; counts.items()[0], (ItemNo(1), 2));
+    Ok(())
+}
+
+#[test]
+fn a_job_holds_its_parts(rt: HostRuntime) -> Result<(), Fail> {
+    let case = Case {
+        kind: CaseKind::Cylinder {
+            pressure: 300,
+            diameter: 2000,
+            closed: false,
+            axial: -10000,
+            mx: 0,
+            my: 0,
+        },
+        factor: 10000,
+    };
+    let rules = RuleSet {
+        inner: Some(ItemSet(5)),
+        outer: None,
+        symmetric: true,
+        balanced: false,
+        run: Some(2),
+        fewest: None,
+        thickness: Some(15000),
+        counts: Entries::of(Vec::new(rt.alloc())),
+    };
+    let job = Job {
+        limit: 9,
+        liner: Stack::new(rt.alloc()),
+        liner_in_wall: false,
+        rules,
+        cases: Entries::of(vec![in rt.alloc(); case]?),
+        panels: Entries::of(Vec::new(rt.alloc())),
+    };
+    let rules = &job.rules;
+    assert_eq!(rt; rules.thickness, Some(15000));
+    assert_eq!(rt; resultants(&job.cases.items()[0]).nx, -40000);
     Ok(())
 }

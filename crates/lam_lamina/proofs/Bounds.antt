@@ -1,24 +1,21 @@
--- How large the numbers of a lamina on a scale are, and that they fit.
+-- How large the reduced stiffness of a lamina on a scale is, and that its numerators do not exceed the denominator.
 use Rattle.std.proofs.Common.{◌≡◌, refl, sym, ◌∙◌, ap, subst, ℕ, ◌≤◌, ℤ, pos, ◌*ℤ◌, ◌<ℤ◌, arith}
 use Rattle.std.specs.Prelude.{unsigned_abs}
 use Rattle.std.proofs.lemmas.Int.{ints, clamps}
 use Rattle.lam_fraction.specs.Fraction.{ℚ, whole, ◌-ℚ◌, ◌*ℚ◌, ◌/ℚ◌, opposite, inverse, fraction, ◌≤ℚ◌, ◌<ℚ◌}
-use Rattle.lam_fraction.proofs.FractionPairs.{whole-le, whole-lt}
+use Rattle.lam_fraction.proofs.FractionPairs.{whole-le}
 use Rattle.lam_fraction.proofs.FractionRing.{whole-product}
 use Rattle.lam_fraction.proofs.Expression.{int, ◌⊕◌, ◌⊖◌, ◌⊗◌, minus}
 use Rattle.lam_fraction.proofs.Solver.{◌≐◌}
 use Rattle.lam_fraction.proofs.Integers as Z
 use Rattle.lam_fraction.proofs.Rationals.{solve, from₁, transitive, above, weaken, at_most, at_most_over, number, positive_number, inverse_positive, not_zero, same_without_factor, ◌+ₙ◌, ◌*ₙ◌}
-use Rattle.lam_fraction.proofs.FractionBounds.{times-inverse, quotient_at_most, at_most_quotient, quotient_only, fraction-times}
+use Rattle.lam_fraction.proofs.FractionBounds.{whole_positive, times-inverse, quotient_at_most, at_most_quotient, quotient_only, fraction-times}
 use Rattle.lam_stock.specs.declared.item.Lamina.{Lamina}
 use Rattle.lam_stock.specs.PlyLaw.{reduced_11, reduced_12, reduced_22, reduced_66}
 use Rattle.lam_lamina.specs.Covered.{IsCovered}
-use Rattle.lam_lamina.specs.Held.{HoldsModuli, NarrowModuli}
-use Rattle.lam_lamina.specs.Known.{KnownModuli}
 use Rattle.lam_lamina.specs.Stiffness.{moduli_over}
-use Rattle.lam_lamina.specs.declared.stiffness.Reduced.{Reduced}
 use Rattle.lam_lamina.proofs.Moduli.{IsElastic, Spans, along_stiff, across_stiff, trace_at_most, shear_at_most, coupled_not_negative, coupled_at_most}
-use Rattle.lam_lamina.proofs.Steps.{Quarters}
+use Rattle.lam_fraction.proofs.numbers.Steps.{Parts}
 
 -- ---- what a scale that covers a lamina says of it
 
@@ -31,12 +28,9 @@ spans h = record { normal = omega (arith, ints, clamps, h.covered); shear = omeg
 pub scale_positive : {q0 : ℤ} {l : Lamina} → IsCovered q0 l → pos 0 <ℤ q0
 scale_positive {q0} {l} h = omega (arith, ints, (spans h).shear, h.range.least_g12)
 
-whole_positive : {n : ℤ} → pos 0 <ℤ n → whole (pos 0) <ℚ whole n
-whole_positive {n} h = (whole-lt (pos 0) n).1 h
-
 -- ---- the moduli, over the scale
 
-quarters-over : (b : ℕ) (x k : ℚ) → whole (pos 0) <ℚ k → whole (pos 0) ≤ℚ x → whole (pos 4) *ℚ x ≤ℚ whole (pos b) *ℚ k → Quarters b (x /ℚ k)
+quarters-over : (b : ℕ) (x k : ℚ) → whole (pos 0) <ℚ k → whole (pos 0) ≤ℚ x → whole (pos 4) *ℚ x ≤ℚ whole (pos b) *ℚ k → Parts 4 b (x /ℚ k)
 unfolding ◌-ℚ◌ ◌/ℚ◌
 quarters-over b x k positive least most =
     let share = weaken (inverse_positive positive) in (
@@ -77,21 +71,22 @@ module _ {q0 : ℤ} {l : Lamina} (h : IsCovered q0 l) where
   scale : whole (pos 0) <ℚ whole q0
   scale = whole_positive (scale_positive h)
 
-  -- four enclosures that hold the moduli and are narrow are known
-  pub known-moduli : {A : Type 0} (s : ℕ) (p : ℤ) (low high : A → ℤ) (r : Reduced A)
-      → HoldsModuli s low high r (moduli_over q0 l) → NarrowModuli 1 p low high r → KnownModuli s (unsigned_abs p) low high r (moduli_over q0 l)
+  -- the sizes of the four, in quarters
+  pub q11-size : Parts 4 4 (moduli_over q0 l).q11
   unfolding moduli_over
-  known-moduli s p low high r held narrow =
-      let a = quarters-over 4 (reduced_11 l) (whole q0) scale (weaken (along_stiff l (elastic h))) (four-times (reduced_11 l) (whole q0) q11-at_most) in
-      let b = quarters-over 2 (reduced_12 l) (whole q0) scale (coupled_not_negative l (elastic h) h.range.least_n12) (twice-twice (reduced_12 l) (whole q0) q12-at_most) in
-      let c = quarters-over 4 (reduced_22 l) (whole q0) scale (weaken (across_stiff l (elastic h))) (four-times (reduced_22 l) (whole q0) q22-at_most) in
-      let d = quarters-over 2 (reduced_66 l) (whole q0) scale q66-least (twice-twice (reduced_66 l) (whole q0) (shear_at_most l (elastic h) (spans h))) in
-      record {
-        q11 = record { held = held.q11; narrow = narrow.q11; least = a.0; most = a.1 };
-        q12 = record { held = held.q12; narrow = narrow.q12; least = b.0; most = b.1 };
-        q22 = record { held = held.q22; narrow = narrow.q22; least = c.0; most = c.1 };
-        q66 = record { held = held.q66; narrow = narrow.q66; least = d.0; most = d.1 };
-      }
+  q11-size = quarters-over 4 (reduced_11 l) (whole q0) scale (weaken (along_stiff l (elastic h))) (four-times (reduced_11 l) (whole q0) q11-at_most)
+
+  pub q12-size : Parts 4 2 (moduli_over q0 l).q12
+  unfolding moduli_over
+  q12-size = quarters-over 2 (reduced_12 l) (whole q0) scale (coupled_not_negative l (elastic h) h.range.least_n12) (twice-twice (reduced_12 l) (whole q0) q12-at_most)
+
+  pub q22-size : Parts 4 4 (moduli_over q0 l).q22
+  unfolding moduli_over
+  q22-size = quarters-over 4 (reduced_22 l) (whole q0) scale (weaken (across_stiff l (elastic h))) (four-times (reduced_22 l) (whole q0) q22-at_most)
+
+  pub q66-size : Parts 4 2 (moduli_over q0 l).q66
+  unfolding moduli_over
+  q66-size = quarters-over 2 (reduced_66 l) (whole q0) scale q66-least (twice-twice (reduced_66 l) (whole q0) (shear_at_most l (elastic h) (spans h)))
 
 -- ---- fractions over a scale
 

@@ -6,19 +6,19 @@ use Rattle.lam_fraction.proofs.Expression.{◌⊕◌, ◌⊖◌, ◌⊗◌}
 use Rattle.lam_fraction.proofs.Solver.{◌≐◌}
 use Rattle.lam_fraction.proofs.Integers as Z
 use Rattle.lam_stock.specs.Limits.{ModuliInRange}
-use Rattle.lam_stock.specs.Moduli.{stiffness, softness}
+use Rattle.lam_stock.specs.Moduli.{stiffness_cap, stiffness_floor}
 use Rattle.lam_stock.specs.Scale.{IsScaleOf}
 use Rattle.lam_stock.specs.Stock.{WithinLimits}
 use Rattle.lam_stock.specs.declared.item.Item.{Item}
 use Rattle.lam_stock.specs.declared.item.Lamina.{Lamina}
 use Rattle.lam_stock.specs.declared.scale.Scale.{Scale}
 use Rattle.lam_lamina.specs.Covered.{IsCovered}
-use Rattle.lam_lamina.specs.Work.{WorksBetween}
+use Rattle.lam_stock.specs.Energy.{LayerEnergyBetween}
 use Rattle.lam_lamina.proofs.Bounds.{elastic, spans}
 use Rattle.lam_lamina.proofs.Form.{form-least, form-greatest}
 use Rattle.lam_lamina.proofs.Moduli.{Underlies}
 
-at_most_stiff : (l : Lamina) → ModuliInRange l → stiffness l ≤ℤ pos (2 ^ 21)
+at_most_stiff : (l : Lamina) → ModuliInRange l → stiffness_cap l ≤ℤ pos (2 ^ 21)
 at_most_stiff l range = omega (arith, ints, clamps, range.greatest_e1, range.greatest_e2, range.greatest_g12)
 
 -- a quotient, rounded towards 0, times the divisor
@@ -27,7 +27,7 @@ quotient-times (pos a) (pos d) h k = omega (arith, ints)
 quotient-times (pos a) (negsuc d) h k = absurd (omega (arith, ints))
 quotient-times (negsuc a) d h k = absurd (omega (arith, ints))
 
-soft_underlies : (floor : ℤ) (l : Lamina) → ModuliInRange l → floor ≤ℤ softness l → Underlies floor l
+soft_underlies : (floor : ℤ) (l : Lamina) → ModuliInRange l → floor ≤ℤ stiffness_floor l → Underlies floor l
 soft_underlies floor l range soft =
     let along : pos 0 ≤ℤ l.e1 = omega (arith, ints, range.least_e1) in
     let across : pos 0 ≤ℤ l.e2 = omega (arith, ints, range.least_e2) in
@@ -60,7 +60,7 @@ module _ (items : List Item) (scale : Scale) (limits : All WithinLimits items) (
   catalogue-underlies = λ k d within. soft_underlies scale.floor _ (limits k d within).limits.range.moduli (is_scale.below k d within)
 
   -- so the work of each layer lies between them
-  pub catalogue-works : All (WorksBetween scale.floor scale.q0) items
+  pub catalogue-works : All (LayerEnergyBetween scale.floor scale.q0) items
   catalogue-works = λ k d within e. (
     form-least _ (elastic (catalogue-covered k d within)) (catalogue-underlies k d within) (limits k d within).direction e,
     form-greatest _ (elastic (catalogue-covered k d within)) (spans (catalogue-covered k d within)) (limits k d within).direction e,

@@ -1,40 +1,20 @@
--- The work of a layer's stress in its strain lies between floor and q0 times the strain's squares.
+-- The twice_energy of a layer's stress in its strain lies between floor and q0 times the strain's strain_squares.
 use Rattle.std.proofs.Common.{◌≡◌, refl, sym, subst, subst₂, ℤ, pos, [], ◌∷◌}
 use Rattle.lam_fraction.specs.Fraction.{ℚ, whole, ◌+ℚ◌, ◌-ℚ◌, ◌*ℚ◌, opposite, fraction, ◌≤ℚ◌, ◌<ℚ◌, ◌/ℚ◌}
 use Rattle.lam_fraction.proofs.FractionRing.{distributes}
 use Rattle.lam_fraction.proofs.Expression.{int, ◌⊕◌, ◌⊖◌, ◌⊗◌, minus}
 use Rattle.lam_fraction.proofs.Solver.{quotes, ◌≐◌}
-use Rattle.lam_fraction.proofs.Rationals.{by_ring, solve, from₁, from₂, above, weaken, number, at_most, at_most_over, square, positive_number, ◌+ₙ◌, ◌*ₙ◌}
+use Rattle.lam_fraction.proofs.Rationals.{by_ring, solve, from₁, above, weaken, number, at_most, at_most_over, square, positive_number, ◌+ₙ◌, ◌*ₙ◌}
 use Rattle.lam_fraction.proofs.FractionBounds.{sum_monotone, at_most_quotient}
 use Rattle.lam_direction.specs.Circle.{CirclePoint, IsDirection}
 use Rattle.lam_stock.specs.declared.item.Lamina.{Lamina}
 use Rattle.lam_stock.specs.declared.item.Kind.{Kind}
 use Rattle.lam_stock.specs.declared.item.Kind.TheVariants.{Ply, Pair}
-use Rattle.lam_stock.specs.PlyLaw.{InWall, InPly, two, mean, ply_stress, strain_turned, stress_turned_back, cosine, sine, Side, Plus, Minus, side_point, side_wall_stress, layer_stress, reduced_11, reduced_12, reduced_22, reduced_66}
-use Rattle.lam_lamina.specs.Work.{work, squares}
+use Rattle.lam_stock.specs.PlyLaw.{OffAxis, OnAxis, two, mean, ply_stress, strain_on_axis, cosine, sine, Side, Plus, Minus, side_point, side_wall_stress, layer_stress, reduced_11, reduced_12, reduced_22, reduced_66}
+use Rattle.lam_stock.specs.Energy.{twice_energy, twice_energy_on_axis, strain_squares, strain_squares_on_axis}
 use Rattle.lam_lamina.proofs.Moduli.{IsElastic, Spans, Underlies, along_stiff, trace_positive, trace_at_most, determinant_positive, determinant_at_least, shear_at_most, shear_at_least}
-use Rattle.lam_lamina.proofs.Turning.{two_halves, IsTurn, direction-turn, mirrored-turn, cosine-mirrored, sine-mirrored}
-
--- ---- the same in the axes of a ply
-
-abbrev pub ply_work : InPly → InPly → ℚ
-ply_work t e = t.along *ℚ e.along +ℚ t.across *ℚ e.across +ℚ t.shear *ℚ e.shear
-
-abbrev pub ply_squares : InPly → ℚ
-ply_squares e = e.along *ℚ e.along +ℚ e.across *ℚ e.across +ℚ fraction (pos 1) (pos 2) *ℚ (e.shear *ℚ e.shear)
-
--- work is the same in both axes
-pub work-turned : (c s : ℚ) (t : InPly) (e : InWall) → work (stress_turned_back c s t) e ≡ ply_work t (strain_turned c s e)
-unfolding ◌-ℚ◌ ◌/ℚ◌
-work-turned c s t e = by_ring (c ∷ s ∷ t.along ∷ t.across ∷ t.shear ∷ e.x ∷ e.y ∷ e.s ∷ []) (search quotes depth 40 fits 9000) refl
-
--- and so are the squares
-pub squares-turned : (c s : ℚ) → IsTurn c s → (e : InWall) → ply_squares (strain_turned c s e) ≡ squares e
-unfolding ◌-ℚ◌ ◌/ℚ◌
-squares-turned c s h e =
-    from₂ (squares e *ℚ (c *ℚ c +ℚ s *ℚ s +ℚ whole (pos 1))) h
-    (two *ℚ (s *ℚ c) *ℚ ((s *ℚ c) *ℚ (e.y -ℚ e.x) *ℚ (e.y -ℚ e.x) +ℚ (c *ℚ c -ℚ s *ℚ s) *ℚ (e.y -ℚ e.x) *ℚ e.s -ℚ (s *ℚ c) *ℚ e.s *ℚ e.s)) two_halves
-    (by_ring (c ∷ s ∷ e.x ∷ e.y ∷ e.s ∷ fraction (pos 1) (pos 2) ∷ []) (search quotes depth 40 fits 9000) refl)
+use Rattle.lam_stock.proofs.Angles.{two_halves, side-angle}
+use Rattle.lam_stock.proofs.EnergyTransformed.{twice_energy-transformed, strain_squares-transformed}
 
 -- ---- normal components and shear apart
 
@@ -78,45 +58,41 @@ shear-greatest f q a high =
 
 -- ---- a ply in its own axes
 
-pub ply-least : {l : Lamina} {floor : ℤ} → IsElastic l → Underlies floor l → (e : InPly) → whole floor *ℚ ply_squares e ≤ℚ ply_work (ply_stress l e) e
+pub ply-least : {l : Lamina} {floor : ℤ} → IsElastic l → Underlies floor l → (e : OnAxis) → whole floor *ℚ strain_squares_on_axis e ≤ℚ twice_energy_on_axis (ply_stress l e) e
 ply-least {l} {floor} elastic under e =
-    subst (λ x. x ≤ℚ ply_work (ply_stress l e) e) (sym (distributes (whole floor) _ _))
+    subst (λ x. x ≤ℚ twice_energy_on_axis (ply_stress l e) e) (sym (distributes (whole floor) _ _))
     (sum_monotone
     (normal-least (whole floor) (reduced_11 l) (reduced_12 l) (reduced_22 l) e.along e.across (trace_positive l elastic) (determinant_at_least l elastic under))
     (shear-least (whole floor) (reduced_66 l) e.shear (shear_at_least l elastic under)))
 
-pub ply-greatest : {l : Lamina} {q0 : ℤ} → IsElastic l → Spans q0 l → (e : InPly) → ply_work (ply_stress l e) e ≤ℚ whole q0 *ℚ ply_squares e
+pub ply-greatest : {l : Lamina} {q0 : ℤ} → IsElastic l → Spans q0 l → (e : OnAxis) → twice_energy_on_axis (ply_stress l e) e ≤ℚ whole q0 *ℚ strain_squares_on_axis e
 ply-greatest {l} {q0} elastic spans e =
-    subst (λ x. ply_work (ply_stress l e) e ≤ℚ x) (sym (distributes (whole q0) _ _))
+    subst (λ x. twice_energy_on_axis (ply_stress l e) e ≤ℚ x) (sym (distributes (whole q0) _ _))
     (sum_monotone
     (normal-greatest (whole q0) (reduced_11 l) (reduced_12 l) (reduced_22 l) e.along e.across (along_stiff l elastic) (determinant_positive l elastic) (trace_at_most l elastic spans))
     (shear-greatest (whole q0) (reduced_66 l) e.shear (shear_at_most l elastic spans)))
 
 -- ---- a side in the axes of the wall
 
-pub side-turn : {d : CirclePoint} (side : Side) → IsDirection d → IsTurn (cosine (side_point side d)) (sine (side_point side d))
-side-turn Plus h = direction-turn h
-side-turn {d} Minus h = subst₂ IsTurn (sym (cosine-mirrored d)) (sym (sine-mirrored d)) (mirrored-turn (cosine d) (sine d) (direction-turn h))
-
 pub side-least : {l : Lamina} {d : CirclePoint} {floor : ℤ} (side : Side) → IsElastic l → Underlies floor l → IsDirection d
-    → (e : InWall) → whole floor *ℚ squares e ≤ℚ work (side_wall_stress l d side e) e
+    → (e : OffAxis) → whole floor *ℚ strain_squares e ≤ℚ twice_energy (side_wall_stress l d side e) e
 side-least {l} {d} {floor} side elastic under direction e =
     let c = cosine (side_point side d) in
     let s = sine (side_point side d) in
-    subst₂ (λ x y. whole floor *ℚ x ≤ℚ y) (squares-turned c s (side-turn side direction) e) (sym (work-turned c s (ply_stress l (strain_turned c s e)) e))
-    (ply-least elastic under (strain_turned c s e))
+    subst₂ (λ x y. whole floor *ℚ x ≤ℚ y) (strain_squares-transformed c s (side-angle side direction) e) (sym (twice_energy-transformed c s (ply_stress l (strain_on_axis c s e)) e))
+    (ply-least elastic under (strain_on_axis c s e))
 
 pub side-greatest : {l : Lamina} {d : CirclePoint} {q0 : ℤ} (side : Side) → IsElastic l → Spans q0 l → IsDirection d
-    → (e : InWall) → work (side_wall_stress l d side e) e ≤ℚ whole q0 *ℚ squares e
+    → (e : OffAxis) → twice_energy (side_wall_stress l d side e) e ≤ℚ whole q0 *ℚ strain_squares e
 side-greatest {l} {d} {q0} side elastic spans direction e =
     let c = cosine (side_point side d) in
     let s = sine (side_point side d) in
-    subst₂ (λ x y. x ≤ℚ whole q0 *ℚ y) (sym (work-turned c s (ply_stress l (strain_turned c s e)) e)) (squares-turned c s (side-turn side direction) e)
-    (ply-greatest elastic spans (strain_turned c s e))
+    subst₂ (λ x y. x ≤ℚ whole q0 *ℚ y) (sym (twice_energy-transformed c s (ply_stress l (strain_on_axis c s e)) e)) (strain_squares-transformed c s (side-angle side direction) e)
+    (ply-greatest elastic spans (strain_on_axis c s e))
 
 -- ---- a layer
 
-work-mean : (t u e : InWall) → work (record { x = mean t.x u.x; y = mean t.y u.y; s = mean t.s u.s }) e ≡ mean (work t e) (work u e)
+work-mean : (t u e : OffAxis) → twice_energy (record { x = mean t.x u.x; y = mean t.y u.y; s = mean t.s u.s }) e ≡ mean (twice_energy t e) (twice_energy u e)
 unfolding ◌-ℚ◌ ◌/ℚ◌
 work-mean t u e = by_ring (t.x ∷ t.y ∷ t.s ∷ u.x ∷ u.y ∷ u.s ∷ e.x ∷ e.y ∷ e.s ∷ fraction (pos 1) (pos 2) ∷ []) (search quotes depth 40 fits 9000) refl
 
@@ -132,18 +108,18 @@ mean-greatest x a b p q =
     at_most (half_not_negative *ₙ (above p +ₙ above q))
     (from₁ (opposite x) two_halves (solve 4 (λ x a b h. x ⊖ (a ⊕ b) ⊗ h ≐ h ⊗ ((x ⊖ a) ⊕ (x ⊖ b)) ⊕ minus x ⊗ (h ⊗ int (pos 2) ⊖ int (pos 1))) refl x a b (fraction (pos 1) (pos 2))))
 
--- the work of a layer is at least floor times the squares of its strain
+-- the twice_energy of a layer is at least floor times the strain_squares of its strain
 pub form-least : {l : Lamina} {d : CirclePoint} {floor : ℤ} (kind : Kind) → IsElastic l → Underlies floor l → IsDirection d
-    → (e : InWall) → whole floor *ℚ squares e ≤ℚ work (layer_stress kind l d e) e
+    → (e : OffAxis) → whole floor *ℚ strain_squares e ≤ℚ twice_energy (layer_stress kind l d e) e
 form-least Ply elastic under direction e = side-least Plus elastic under direction e
 form-least {l} {d} {floor} Pair elastic under direction e =
-    subst (λ x. whole floor *ℚ squares e ≤ℚ x) (sym (work-mean (side_wall_stress l d Plus e) (side_wall_stress l d Minus e) e))
-    (mean-least (whole floor *ℚ squares e) _ _ (side-least Plus elastic under direction e) (side-least Minus elastic under direction e))
+    subst (λ x. whole floor *ℚ strain_squares e ≤ℚ x) (sym (work-mean (side_wall_stress l d Plus e) (side_wall_stress l d Minus e) e))
+    (mean-least (whole floor *ℚ strain_squares e) _ _ (side-least Plus elastic under direction e) (side-least Minus elastic under direction e))
 
 -- and at most q0 times them
 pub form-greatest : {l : Lamina} {d : CirclePoint} {q0 : ℤ} (kind : Kind) → IsElastic l → Spans q0 l → IsDirection d
-    → (e : InWall) → work (layer_stress kind l d e) e ≤ℚ whole q0 *ℚ squares e
+    → (e : OffAxis) → twice_energy (layer_stress kind l d e) e ≤ℚ whole q0 *ℚ strain_squares e
 form-greatest Ply elastic spans direction e = side-greatest Plus elastic spans direction e
 form-greatest {l} {d} {q0} Pair elastic spans direction e =
-    subst (λ x. x ≤ℚ whole q0 *ℚ squares e) (sym (work-mean (side_wall_stress l d Plus e) (side_wall_stress l d Minus e) e))
-    (mean-greatest (whole q0 *ℚ squares e) _ _ (side-greatest Plus elastic spans direction e) (side-greatest Minus elastic spans direction e))
+    subst (λ x. x ≤ℚ whole q0 *ℚ strain_squares e) (sym (work-mean (side_wall_stress l d Plus e) (side_wall_stress l d Minus e) e))
+    (mean-greatest (whole q0 *ℚ strain_squares e) _ _ (side-greatest Plus elastic spans direction e) (side-greatest Minus elastic spans direction e))

@@ -1,19 +1,18 @@
 -- What the limits on a lamina say of its reduced stiffness.
-use Rattle.std.proofs.Common.{◌≡◌, refl, sym, ◌∙◌, ap, ap₂, subst, subst₂, ℤ, pos, ◌+ℤ◌, ◌-ℤ◌, ◌*ℤ◌, ◌≤ℤ◌, ◌<ℤ◌, arith}
-use Rattle.std.proofs.lemmas.Int.{ints}
-use Rattle.lam_fraction.specs.Fraction.{ℚ, whole, ◌+ℚ◌, ◌-ℚ◌, ◌*ℚ◌, opposite, inverse, fraction, ◌≤ℚ◌, ◌<ℚ◌, ◌/ℚ◌}
+use Rattle.std.proofs.Common.{◌≡◌, refl, sym, ◌∙◌, ap, ap₂, subst, subst₂, ℤ, pos, ◌+ℤ◌, ◌*ℤ◌, ◌≤ℤ◌, ◌<ℤ◌}
+use Rattle.lam_fraction.specs.Fraction.{ℚ, whole, ◌+ℚ◌, ◌-ℚ◌, ◌*ℚ◌, opposite, inverse, ◌≤ℚ◌, ◌<ℚ◌, ◌/ℚ◌}
 use Rattle.lam_fraction.proofs.FractionPairs.{whole-le, whole-lt}
-use Rattle.lam_fraction.proofs.FractionRing.{whole-sum, whole-product}
 use Rattle.lam_fraction.proofs.Expression.{int, ◌⊕◌, ◌⊖◌, ◌⊗◌, minus}
 use Rattle.lam_fraction.proofs.Solver.{◌≐◌}
 use Rattle.lam_fraction.proofs.Rationals.{solve, from₁, above, weaken, at_most, at_most_over, square, number, positive_number, inverse_positive, below_over, ◌+ₙ◌, ◌+ₚ◌, ◌*ₙ◌, ◌*ₚ◌}
-use Rattle.lam_fraction.proofs.FractionBounds.{times-inverse}
+use Rattle.lam_fraction.proofs.FractionBounds.{whole_positive, times-inverse}
+use Rattle.lam_fraction.proofs.WholeFractions.{at_most_images, sum_image, difference_image, product_image, fraction_image}
 use Rattle.lam_stock.specs.declared.item.Lamina.{Lamina}
 use Rattle.lam_stock.specs.PlyLaw.{poisson_rest, reduced_11, reduced_12, reduced_22, reduced_66}
 
 -- ---- premises on whole numbers
 
--- the moduli are positive, and the Poisson number is not too great for them
+-- the moduli are positive, and the Poisson's ratio is not too great for them
 pub record IsElastic (l : Lamina) : Type 0 where
   pub along : pos 0 <ℤ l.e1
   pub across : pos 0 <ℤ l.e2
@@ -28,35 +27,6 @@ pub record Spans (q0 : ℤ) (l : Lamina) : Type 0 where
 pub record Underlies (floor : ℤ) (l : Lamina) : Type 0 where
   pub normal : (floor *ℤ (l.e1 +ℤ l.e2)) ≤ℤ (l.e1 *ℤ l.e2)
   pub shear : floor ≤ℤ (pos 2 *ℤ l.g12)
-
--- ---- their images
-
-at_most_images : {m n : ℤ} {x y : ℚ} → m ≤ℤ n → whole m ≡ x → whole n ≡ y → x ≤ℚ y
-at_most_images {m} {n} h p q = subst₂ (λ s t. s ≤ℚ t) p q ((whole-le m n).1 h)
-
-positive_image : {m : ℤ} → pos 0 <ℤ m → whole (pos 0) <ℚ whole m
-positive_image {m} h = (whole-lt (pos 0) m).1 h
-
-product_image : (m n : ℤ) {x y : ℚ} → whole m ≡ x → whole n ≡ y → whole (m *ℤ n) ≡ x *ℚ y
-product_image m n p q = whole-product m n ∙ ap₂ (λ s t. s *ℚ t) p q
-
-sum_image : (m n : ℤ) {x y : ℚ} → whole m ≡ x → whole n ≡ y → whole (m +ℤ n) ≡ x +ℚ y
-sum_image m n p q = whole-sum m n ∙ ap₂ (λ s t. s +ℚ t) p q
-
-difference_image : (m n : ℤ) {x y : ℚ} → whole m ≡ x → whole n ≡ y → whole (m -ℤ n) ≡ x -ℚ y
-unfolding ◌-ℚ◌ ◌/ℚ◌
-difference_image m n {x} {y} p q =
-    solve 2 (λ d n. d ≐ (d ⊕ n) ⊖ n) refl (whole (m -ℤ n)) (whole n)
-    ∙ ap (λ s. s -ℚ whole n) (sym (whole-sum (m -ℤ n) n) ∙ ap whole back)
-    ∙ ap₂ (λ s t. s -ℚ t) p q
-  where
-    back : (m -ℤ n) +ℤ n ≡ m
-    back = omega (arith, ints)
-
--- a numerator over a denominator with these images
-fraction_image : (n d : ℤ) {x : ℚ} → whole n ≡ x → fraction n d ≡ x *ℚ inverse (whole d)
-unfolding fraction ◌/ℚ◌
-fraction_image n d p = ap (λ x. x *ℚ inverse (whole d)) p
 
 -- ---- the numbers of a lamina
 module _ (l : Lamina) where
@@ -104,10 +74,10 @@ module _ (l : Lamina) where
 
   module _ (h : IsElastic l) where
     along_positive : whole (pos 0) <ℚ along
-    along_positive = positive_image h.along
+    along_positive = whole_positive h.along
 
     across_positive : whole (pos 0) <ℚ across
-    across_positive = positive_image h.across
+    across_positive = whole_positive h.across
 
     poisson_small : whole (pos 2) *ℚ (poisson *ℚ poisson) *ℚ across ≤ℚ million *ℚ along
     poisson_small = at_most_images h.poisson
@@ -123,10 +93,10 @@ module _ (l : Lamina) where
     poisson_rest_positive = (whole-lt (pos 0) (poisson_rest l)).0 (subst (λ x. whole (pos 0) <ℚ x) (sym rest_image) rest_positive)
 
     rest-share : rest *ℚ share ≡ whole (pos 1)
-    rest-share = ap (λ x. x *ℚ share) (sym rest_image) ∙ times-inverse (positive_image poisson_rest_positive)
+    rest-share = ap (λ x. x *ℚ share) (sym rest_image) ∙ times-inverse (whole_positive poisson_rest_positive)
 
     share_positive : whole (pos 0) <ℚ share
-    share_positive = inverse_positive (positive_image poisson_rest_positive)
+    share_positive = inverse_positive (whole_positive poisson_rest_positive)
 
     -- ---- what the four moduli keep
     trace : reduced_11 l +ℚ reduced_22 l ≡ (million *ℚ (along *ℚ (along +ℚ across))) *ℚ share

@@ -1,8 +1,8 @@
-pub mod Covered
-pub mod Formulas
-pub mod Held
-pub mod Known
+-- the stiffness of a layer: the numbers that give its stress at each strain
 pub mod Stiffness
-pub mod Turn
-pub mod Values
-pub mod Work
+-- the laminae that a scale covers
+pub mod Covered
+-- what sets of enclosures hold, and how narrow they are
+pub mod Held
+-- the formulas that the code computes by
+pub mod inside

@@ -1,7 +1,7 @@
 // What a stiffness consists of.
 
-/// The reduced stiffness of a lamina, in its own axes and over the scale's `q0`: the stresses that the normal
-/// strain along the fibres (1), that across them (2) and the shear strain (6) give.
+/// The reduced stiffness of a lamina, in its own axes and over the scale's `q0`: the stresses that
+/// the normal strain along the fibres (1), that across them (2) and the shear strain (6) give.
 #[derive(Clone, Copy)]
 pub struct Reduced<N> {
     /// The normal stress along the fibres at a strain along them.
@@ -14,8 +14,8 @@ pub struct Reduced<N> {
     pub q66: N,
 }
 
-/// A symmetric matrix with the rows and columns x, y and shear (s), in the axes of the wall. Its product with a
-/// strain is a stress; the shear strain is the engineering one.
+/// A symmetric matrix with the rows and columns x, y and shear (s), in the axes of the wall. Its
+/// product with a strain is a stress; the shear strain is the engineering one.
 #[derive(Clone, Copy)]
 pub struct Sym3<N> {
     pub xx: N,

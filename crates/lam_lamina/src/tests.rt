@@ -1,11 +1,11 @@
 //! Worked stiffnesses.
 
-ghost use Rattle.std.specs.Prelude.{◌≡◌};
+ghost use Rattle.std.specs.Prelude.{◌≡◌, ◌<◌};
 
-use crate::{Reduced, Sym3, item_stiffness, reduced, transformed};
+use crate::{Reduced, Stiffnesses, Sym3, item_stiffness, reduced, transformed};
 use lam_direction::Direction;
 use lam_number::{Enclosure, Fix};
-use lam_stock::{Item, Kind, Lamina, Name, Scale};
+use lam_stock::{Item, ItemNo, Kind, Lamina, Name, Scale, Stock, read_stock};
 use std::test::Fail;
 
 // chopped strand mat, alike in all directions of its plane
@@ -83,7 +83,7 @@ fn mat_has_its_moduli(rt: HostRuntime) {
 }
 
 #[test]
-fn turned_mat_is_as_stiff(rt: HostRuntime) -> Result<(), Fail> {
+fn transformed_mat_is_as_stiff(rt: HostRuntime) -> Result<(), Fail> {
     let name = Name::read(b"mat").expect(&rt, "a name");
     let ply = item(name, Kind::Ply, MAT, Direction::read(3, 4, 5)?);
     let mat: Sym3<Fix<60>> = item_stiffness(&ply, &MAT_SCALE);
@@ -124,5 +124,45 @@ fn a_pair_does_not_couple_shear(rt: HostRuntime) -> Result<(), Fail> {
     assert!(rt; glass.ys.low() <= 0 && 0 <= glass.ys.high());
     assert!(rt; glass.xx.low() <= 27_707_581 && 27_707_582 <= glass.xx.high());
     assert!(rt; glass.yy.low() <= 49_651_445 && 49_651_446 <= glass.yy.high());
+    Ok(())
+}
+
+// the entry of an item in the table of its catalogue
+fn entry<N: Enclosure>(stock: &Stock, no: ItemNo) -> Sym3<N>
+    requires { no.0 < 64 }
+{
+    let table: Stiffnesses<N> = Stiffnesses::of(stock);
+    *table.get(no)
+}
+
+// tells whether two enclosures have the same ends
+fn same<N: Enclosure>(a: N, b: N) -> bool {
+    a.low() == b.low() && a.high() == b.high()
+}
+
+// tells whether two matrices have the same ends
+fn same_matrix<N: Enclosure>(a: &Sym3<N>, b: &Sym3<N>) -> bool {
+    let normal = same(a.xx, b.xx) && same(a.xy, b.xy) && same(a.yy, b.yy);
+    normal && same(a.xs, b.xs) && same(a.ys, b.ys) && same(a.ss, b.ss)
+}
+
+#[test]
+fn a_table_has_the_stiffness_of_each_item(rt: HostRuntime) -> Result<(), Fail> {
+    let alloc = rt.alloc();
+    let text = b"name,kind,e1,e2,n12,g12,xt,xc,yt,yc,s,f12,t,p,q,h,cost
+glass,ply,40000,10000,250,4000,800000,500000,35000,110000,50000,0,5000,160,231,281,1
+both,pair,40000,10000,250,4000,800000,500000,35000,110000,50000,0,5000,160,231,281,1
+";
+    let stock = read_stock(alloc, text)?;
+    let name = Name::read(b"glass").expect(&rt, "a name");
+    let ply = item(name, Kind::Ply, GLASS, Direction::read(160, 231, 281)?);
+    let no = stock.find(b"glass").expect(&rt, "an item");
+    let wide: Sym3<Fix<60>> = entry(&stock, no);
+    assert!(rt; same_matrix(&wide, &item_stiffness(&ply, &GLASS_SCALE)));
+    let name = Name::read(b"both").expect(&rt, "a name");
+    let pair = item(name, Kind::Pair, GLASS, Direction::read(160, 231, 281)?);
+    let no = stock.find(b"both").expect(&rt, "an item");
+    let short: Sym3<Fix<28>> = entry(&stock, no);
+    assert!(rt; same_matrix(&short, &item_stiffness(&pair, &GLASS_SCALE)));
     Ok(())
 }

@@ -2,8 +2,8 @@
 use Rattle.std.proofs.Common.{◌≡◌, sym, ap, ◌∙◌, subst, ℕ, ◌<◌, ◌≤◌, ◌^◌, ◌+◌, ◌*◌, pos, arith, ℤ, FitsSigned, ◌+ℤ◌, ◌-ℤ◌, ◌*ℤ◌, ◌≤ℤ◌, unsigned_abs, to_z, of_z}
 use Rattle.std.proofs.lemmas.Int.{ints, to_z-of_z, fits_signed_from_abs}
 use Rattle.std.specs.Int.{w64, w128}
-use Rattle.lam_number.specs.Formulas.{product_centre, product_spread, product_low, product_high, ratio_low, ratio_high}
-use Rattle.lam_number.specs.Rounding.{floor_over, ceil_over}
+use Rattle.lam_fraction.specs.inside.FixedEnds.{product_centre, product_spread, product_low, product_high, ratio_low, ratio_high}
+use Rattle.lam_fraction.specs.numbers.Rounding.{floor_over, ceil_over}
 use Rattle.lam_number.proofs.Sizes.{unit_square, unit_bound}
 
 -- a number of 128 bits that is read again fits 64 bits where it does

@@ -1,13 +1,10 @@
 -- A value of fixed point is known by its ends.
-use Rattle.std.proofs.Common.{◌≡◌, sym, ap, ◌∙◌, subst, ℕ, arith, ℤ, ◌≤ℤ◌, ◌*◌}
+use Rattle.std.proofs.Common.{◌≡◌, sym, ap, ◌∙◌, subst, ℕ, arith, ℤ, ◌≤ℤ◌}
 use Rattle.std.proofs.lemmas.Int.{ints, clamps}
 use Rattle.std.specs.Int.{int_max}
 use lib.Dec.{T_prop}
-use Rattle.lam_fraction.specs.Fraction.{ℚ}
-use Rattle.lam_number.specs.Encloses.{Encloses}
-use Rattle.lam_number.specs.Ends.{width}
 use Rattle.lam_number.specs.declared.fix.Fix.{Fix}
-use Rattle.lam_number.specs.FixValues.{fix_of, max-bound}
+use Rattle.lam_number.specs.inside.FixNumbers.{fix_of, max-bound}
 
 order_prop : (x y : ℤ) → IsProp (x ≤ℤ y)
 order_prop x y = hlevel T_prop
@@ -24,13 +21,3 @@ fix_is s a low high e f =
     let order : low ≤ℤ high = subst (λ z. z ≤ℤ high) e (subst (λ z. a.low ≤ℤ z) f a.ordered) in
     let top : int_max low high ≡ high = omega (arith, ints, clamps) in
     same_ends s a low (int_max low high) (max-bound low high) e (f ∙ sym top)
-
--- what equal ends hold and how wide they are
-pub held_as : (s : ℕ) (low high low' high' : ℤ) (x : ℚ) → low ≡ low' → high ≡ high' → Encloses s low' high' x → Encloses s low high x
-held_as s low high low' high' x e f h = subst (λ z. Encloses s z high x) (sym e) (subst (λ z. Encloses s low' z x) (sym f) h)
-
-pub width_as : (low high low' high' : ℤ) → low ≡ low' → high ≡ high' → width low high ≡ width low' high'
-width_as low high low' high' e f = ap (λ z. width z high) e ∙ ap (λ z. width low' z) f
-
-pub scaled_width_as : (u : ℕ) (low high low' high' : ℤ) → low ≡ low' → high ≡ high' → width low high * u ≡ width low' high' * u
-scaled_width_as u low high low' high' e f = ap (λ n. n * u) (width_as low high low' high' e f)

@@ -1,9 +1,8 @@
+-- whole numbers that went to bits and came back
 pub mod Casts
-pub mod FixFacts
-pub mod Holding
-pub mod Laws
-pub mod Rationals
-pub mod Rounded
+-- what fits 64 and 128 bits
 pub mod Sizes
-pub mod SumOfProducts
-pub mod Widths
+-- quotients that fit, and the only whole root
+pub mod Rounded
+-- a value of fixed point is known by its ends
+pub mod FixFacts

@@ -1,50 +1,27 @@
--- Quotients that are rounded down or up: their sizes and their order.
-use Rattle.std.proofs.Common.{inl, inr, Bool, true, false, cond, not, T, nat_le, ◌≡◌, ℕ, zero, suc, ◌+◌, ◌*◌, ◌^◌, ◌<◌, ◌≤◌, ◌/◌, arith, ℤ, pos, negsuc, neg_ℤ, ◌+ℤ◌, ◌-ℤ◌, ◌*ℤ◌, ◌≤ℤ◌, ◌<ℤ◌, FitsSigned, unsigned_abs, mod-lt, div-add-mod', lt_of_le_of_lt, div-le_self, mul-le-mul_right, subst, sym, refl}
+-- Quotients that are rounded down or up: that they fit 64 bits, and their order; and that a whole root is the only one.
+use Rattle.std.proofs.Common.{inl, inr, ◌≡◌, ℕ, zero, suc, ◌+◌, ◌*◌, ◌^◌, ◌<◌, ◌≤◌, arith, ℤ, pos, negsuc, neg_ℤ, ◌+ℤ◌, ◌-ℤ◌, ◌*ℤ◌, ◌≤ℤ◌, ◌<ℤ◌, FitsSigned, unsigned_abs, lt_of_le_of_lt, div-le_self, mul-le-mul_right}
 use Rattle.std.proofs.lemmas.Int.{ints, unsigned_abs-mul, fits_signed_from_abs}
 use Rattle.std.proofs.Math.Nat.{div-le_of_le-mul}
-use Rattle.std.proofs.lemmas.Nat.{div_below, le-div, pow_pos, mul-le}
+use Rattle.std.proofs.lemmas.Nat.{div_below, pow_pos, mul-le}
 use Rattle.std.proofs.lemmas.Bool.{cases_lt}
 use Rattle.std.specs.Int.{w64}
 use lib.Signed.{≤ℤ_refl}
-use lib.Dec.{leb→le, nleb→lt}
-use Rattle.lam_number.specs.Rounding.{floor_over, ceil_over, root_floor}
-use Rattle.lam_number.specs.Formulas.{product_low, product_high, product_centre, product_spread, ratio_low, ratio_high}
+use Rattle.lam_fraction.specs.inside.FixedEnds.{product_low, product_high, product_centre, product_spread, ratio_low, ratio_high}
+use Rattle.lam_fraction.specs.numbers.Rounding.{floor_over, ceil_over, root_floor}
+use Rattle.lam_fraction.proofs.numbers.Rounded.{floor-ceil, root_floor-is}
 use Rattle.lam_number.proofs.Sizes.{units_fit}
 
-pub floor-size : (z : ℤ) (n b : ℕ) → 0 < n → unsigned_abs z ≤ b * n → unsigned_abs (floor_over z n) ≤ b
+pub floor-within : (z : ℤ) (n b : ℕ) → 0 < n → unsigned_abs z ≤ b * n → unsigned_abs (floor_over z n) ≤ b
 unfolding floor_over
-floor-size (pos a) n b p h = div-le_of_le-mul n (omega (arith, h))
-floor-size (negsuc a) n b p h = omega (arith, div_below a n b p (omega (arith, h)))
+floor-within (pos a) n b p h = div-le_of_le-mul n (omega (arith, h))
+floor-within (negsuc a) n b p h = omega (arith, div_below a n b p (omega (arith, h)))
 
 neg-size : (z : ℤ) → unsigned_abs (neg_ℤ z) ≡ unsigned_abs z
 neg-size z = omega (arith, ints)
 
-pub ceil-size : (z : ℤ) (n b : ℕ) → 0 < n → unsigned_abs z ≤ b * n → unsigned_abs (ceil_over z n) ≤ b
+pub ceil-within : (z : ℤ) (n b : ℕ) → 0 < n → unsigned_abs z ≤ b * n → unsigned_abs (ceil_over z n) ≤ b
 unfolding ceil_over
-ceil-size z n b p h = omega (arith, neg-size (floor_over (neg_ℤ z) n), floor-size (neg_ℤ z) n b p (omega (arith, neg-size z, h)))
-
-quotient-monotone : (a b n : ℕ) → 0 < n → a ≤ b → a / n ≤ b / n
-quotient-monotone a b n p h = le-div (a / n) b n p (omega (arith, div-add-mod' a n, h))
-
-floor-monotone : (y z : ℤ) (n : ℕ) → 0 < n → y ≤ℤ z → floor_over y n ≤ℤ floor_over z n
-unfolding floor_over
-floor-monotone (pos a) (pos b) n p h = omega (arith, ints, quotient-monotone a b n p (omega (arith, ints, h)))
-floor-monotone (pos a) (negsuc b) n p h = absurd (omega (arith, ints, h))
-floor-monotone (negsuc a) (pos b) n p h = omega (arith, ints)
-floor-monotone (negsuc a) (negsuc b) n p h = omega (arith, ints, quotient-monotone b a n p (omega (arith, ints, h)))
-
-suc-quotient : (a n : ℕ) → 0 < n → suc a / n ≤ suc (a / n)
-suc-quotient a n p = div-le_of_le-mul n (omega (arith, div-add-mod' a n, mod-lt a p))
-
-floor-ceil-same : (z : ℤ) (n : ℕ) → 0 < n → floor_over z n ≤ℤ ceil_over z n
-unfolding floor_over ceil_over
-floor-ceil-same (pos zero) n p = omega (arith, ints)
-floor-ceil-same (pos (suc a)) n p = omega (arith, ints, suc-quotient a n p)
-floor-ceil-same (negsuc a) n p = omega (arith, ints, suc-quotient a n p)
-
--- rounded down is at most rounded up
-pub floor-ceil : (y z : ℤ) (n : ℕ) → 0 < n → y ≤ℤ z → floor_over y n ≤ℤ ceil_over z n
-floor-ceil y z n p h = omega (arith, ints, floor-monotone y z n p h, floor-ceil-same z n p)
+ceil-within z n b p h = omega (arith, neg-size (floor_over (neg_ℤ z) n), floor-within (neg_ℤ z) n b p (omega (arith, neg-size z, h)))
 
 -- rounded quotients of a number of 64 bits
 pub floor_fits : (z : ℤ) (n : ℕ) → FitsSigned w64 z → FitsSigned w64 (floor_over z n)
@@ -61,50 +38,34 @@ ceil_fits (negsuc a) n f = omega (arith, ints, div-le_self (suc a) n, f.sfits)
 size_positive : (d : ℤ) → pos 0 <ℤ d → 0 < unsigned_abs d
 size_positive d p = omega (arith, ints, p)
 
-lower-higher : (z : ℤ) (n : ℕ) → (z -ℤ pos n) ≤ℤ (z +ℤ pos n)
-lower-higher z n = omega (arith, ints)
-
 -- the ends of a ratio fit 64 bits
 ratio_units : (num den : ℤ) (s : ℕ) → unsigned_abs num ≤ 6 * unsigned_abs den → unsigned_abs (num *ℤ pos (2 ^ s)) ≤ (6 * 2 ^ s) * unsigned_abs den
 ratio_units num den s h = omega (arith, unsigned_abs-mul num (pos (2 ^ s)), mul-le-mul_right (2 ^ s) h)
 
 pub ratio_low_fits : (s : ℕ) (num den : ℤ) → s ≤ 60 → pos 0 <ℤ den → unsigned_abs num ≤ 6 * unsigned_abs den → FitsSigned w64 (ratio_low s num den)
 unfolding ratio_low
-ratio_low_fits s num den h p room = fits_signed_from_abs w64 _ (units_fit _ s h (floor-size _ _ _ (size_positive den p) (ratio_units num den s room)))
+ratio_low_fits s num den h p room = fits_signed_from_abs w64 _ (units_fit _ s h (floor-within _ _ _ (size_positive den p) (ratio_units num den s room)))
 
 pub ratio_high_fits : (s : ℕ) (num den : ℤ) → s ≤ 60 → pos 0 <ℤ den → unsigned_abs num ≤ 6 * unsigned_abs den → FitsSigned w64 (ratio_high s num den)
 unfolding ratio_high
-ratio_high_fits s num den h p room = fits_signed_from_abs w64 _ (units_fit _ s h (ceil-size _ _ _ (size_positive den p) (ratio_units num den s room)))
+ratio_high_fits s num den h p room = fits_signed_from_abs w64 _ (units_fit _ s h (ceil-within _ _ _ (size_positive den p) (ratio_units num den s room)))
 
 pub ratio_ordered : (s : ℕ) (num den : ℤ) → pos 0 <ℤ den → ratio_low s num den ≤ℤ ratio_high s num den
 unfolding ratio_low ratio_high
 ratio_ordered s num den p = floor-ceil _ _ _ (size_positive den p) (≤ℤ_refl _)
+
+pub quotient_ordered : (low high k : ℤ) → low ≤ℤ high → pos 1 ≤ℤ k → floor_over low (unsigned_abs k) ≤ℤ ceil_over high (unsigned_abs k)
+quotient_ordered low high k h p = floor-ceil low high (unsigned_abs k) (omega (arith, ints, p)) h
+
+lower-higher : (z : ℤ) (n : ℕ) → (z -ℤ pos n) ≤ℤ (z +ℤ pos n)
+lower-higher z n = omega (arith, ints)
 
 pub product_ordered : (s : ℕ) (low high low' high' : ℤ) → product_low s low high low' high' ≤ℤ product_high s low high low' high'
 unfolding product_low product_high
 product_ordered s low high low' high' =
     floor-ceil _ _ _ (pow_pos (s + 2)) (lower-higher (product_centre low high low' high') (product_spread low high low' high'))
 
-pub quotient_ordered : (low high k : ℤ) → low ≤ℤ high → pos 1 ≤ℤ k → floor_over low (unsigned_abs k) ≤ℤ ceil_over high (unsigned_abs k)
-quotient_ordered low high k h p = floor-ceil low high (unsigned_abs k) (omega (arith, ints, p)) h
-
 -- ---- whole roots
-pub record IsRoot (r n : ℕ) : Type 0 where
-  pub square : r * r ≤ n
-  pub next : n < (r + 1) * (r + 1)
-
-root_step : (r n : ℕ) → IsRoot r n → IsRoot (cond (nat_le ((r + 1) * (r + 1)) (suc n)) (r + 1) r) (suc n)
-root_step r n p = by_test (nat_le ((r + 1) * (r + 1)) (suc n)) refl
-  where
-    by_test : (b : Bool) → nat_le ((r + 1) * (r + 1)) (suc n) ≡ b → IsRoot (cond b (r + 1) r) (suc n)
-    by_test true e = record { square = leb→le _ _ (subst T (sym e) tt); next = omega (arith, p.next) }
-    by_test false e = record { square = omega (arith, p.square); next = nleb→lt _ _ (subst (λ t. T (not t)) (sym e) tt) }
-
-pub root_floor-is : (n : ℕ) → IsRoot (root_floor n) n
-unfolding root_floor
-root_floor-is zero = record { square = omega arith; next = omega arith }
-root_floor-is (suc n) = root_step (root_floor n) n (root_floor-is n)
-
 no_root_between : (q r n : ℕ) → q < r → r * r ≤ n → n < (q + 1) * (q + 1) → ⊥
 no_root_between q r n h square next = omega (arith, mul-le (q + 1) (q + 1) r r (omega (arith, h)) (omega (arith, h)), square, next)
 

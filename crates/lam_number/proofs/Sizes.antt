@@ -1,41 +1,19 @@
--- The sizes of ends, sums and products.
-use Rattle.std.proofs.Common.{◌≡◌, refl, ap, ◌∙◌, inl, inr, ℕ, ◌+◌, ◌*◌, ◌^◌, ◌<◌, ◌≤◌, arith, ℤ, pos, ◌+ℤ◌, ◌*ℤ◌, ◌≤ℤ◌, FitsSigned, unsigned_abs}
-use Rattle.std.proofs.lemmas.Int.{ints, unsigned_abs-mul, fits_signed_from_abs}
+-- The sizes of ends, sums and products, in 64 and 128 bits.
+use Rattle.std.proofs.Common.{◌≡◌, refl, ap, inl, inr, ℕ, ◌+◌, ◌*◌, ◌^◌, ◌<◌, ◌≤◌, arith, ℤ, pos, ◌+ℤ◌, ◌*ℤ◌, ◌≤ℤ◌, FitsSigned, unsigned_abs}
+use Rattle.std.proofs.lemmas.Int.{unsigned_abs-mul, fits_signed_from_abs}
 use Rattle.std.proofs.Math.Nat.{pow-le-pow_right, mul-le-mul_right}
-use Rattle.std.proofs.lemmas.Nat.{mul-le, pow-add}
+use Rattle.std.proofs.lemmas.Nat.{mul-le}
 use Rattle.std.proofs.lemmas.Bool.{cases_lt}
 use Rattle.std.specs.Int.{w128}
-use Rattle.lam_number.specs.Ends.{reach, width}
-use Rattle.lam_number.specs.Formulas.{product_centre, product_spread}
-
-pub low-reach : (low high : ℤ) → unsigned_abs low ≤ reach low high
-unfolding reach
-low-reach low high = omega (arith, ints)
-
-pub high-reach : (low high : ℤ) → unsigned_abs high ≤ reach low high
-unfolding reach
-high-reach low high = omega (arith, ints)
-
--- the size of the doubled middle and the width make twice the reach
-pub middle-width : (low high : ℤ) → low ≤ℤ high → unsigned_abs (low +ℤ high) + width low high ≡ 2 * reach low high
-unfolding reach width
-middle-width low high h = omega (arith, ints)
+use Rattle.lam_fraction.specs.numbers.Ends.{reach, width}
+use Rattle.lam_fraction.specs.inside.FixedEnds.{product_centre, product_spread}
+use Rattle.lam_fraction.proofs.numbers.Sizes.{four_units, product_size}
 
 pub unit_bound : (s : ℕ) → s ≤ 60 → 2 ^ s ≤ 2 ^ 60
 unit_bound s h = pow-le-pow_right (omega arith) h
 
--- four times a product of reaches is what the doubled middles and the widths make
-pub four_reaches : (a b r s p q : ℕ) → a + r ≡ 2 * p → b + s ≡ 2 * q → a * b + (a * s + b * r + r * s) ≡ 4 * (p * q)
-four_reaches a b r s p q e f =
-    let g : a * b + (a * s + b * r + r * s) ≡ (a + r) * (b + s) = omega arith in
-    g ∙ ap (λ n. n * (b + s)) e ∙ ap (λ n. (2 * p) * n) f ∙ omega arith
-
 pub product_room : (low high low' high' : ℤ) (u : ℕ) → low ≤ℤ high → low' ≤ℤ high' → reach low high * reach low' high' ≤ 6 * (u * u) → unsigned_abs (product_centre low high low' high') + product_spread low high low' high' ≤ 24 * (u * u)
-unfolding product_centre product_spread
-product_room low high low' high' u h h' room =
-    let e = four_reaches _ _ _ _ _ _ (middle-width low high h) (middle-width low' high' h') in
-    let f = unsigned_abs-mul (low +ℤ high) (low' +ℤ high') in
-    omega (arith, e, f, room)
+product_room low high low' high' u h h' room = omega (arith, product_size low high low' high' h h', room)
 
 root_too_great : (r n u : ℕ) → 2 ^ 62 ≤ r → n ≤ 2 ^ 63 → u ≤ 2 ^ 60 → r * r ≤ n * u → ⊥
 root_too_great r n u h k l square =
@@ -55,10 +33,6 @@ units_fit n s h k = omega (arith, unit_bound s h, k)
 
 pub unit_square : (s : ℕ) → s ≤ 60 → 2 ^ s * 2 ^ s ≤ 2 ^ 120
 unit_square s h = mul-le _ _ _ _ (unit_bound s h) (unit_bound s h)
-
--- four units
-pub four_units : (s : ℕ) → 2 ^ (s + 2) ≡ 4 * 2 ^ s
-four_units s = pow-add 2 s 2 ∙ omega arith
 
 pub units_over : (n s : ℕ) → n ≤ 24 * (2 ^ s * 2 ^ s) → n ≤ (6 * 2 ^ s) * 2 ^ (s + 2)
 units_over n s h = omega (arith, h, ap (λ k. (6 * 2 ^ s) * k) (four_units s))

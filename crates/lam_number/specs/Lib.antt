@@ -1,7 +1,4 @@
-pub mod Encloses
-pub mod Ends
-pub mod FixValues
-pub mod Formulas
-pub mod Rounding
+-- where an enclosure lies to a margin
 pub mod Signs
-pub mod Values
+-- fixed point's own: nobody has to believe it
+pub mod inside

@@ -1,28 +1,29 @@
-//! Fixed point arithmetic.
+//! The calls of fixed point, with their values.
 //!
 //! The functions are shared by all scales from 28 to 60. Each rounds its low end down and its high
 //! end up, and works in 128 bits inside.
 
 ghost use Rattle.std.specs.Prelude.{◌≡◌, ◌+◌, ◌-◌, ◌*◌, ◌^◌, ◌<◌, ◌≤◌, ℤ, pos, neg_ℤ, ◌+ℤ◌, ◌-ℤ◌, ◌*ℤ◌, ◌≤ℤ◌, ◌<ℤ◌, unsigned_abs, FitsSigned};
 ghost use Rattle.std.specs.Int.{w64, w128, int_min, int_max};
-ghost use Rattle.lam_number.specs.Ends.{reach, width};
-ghost use Rattle.lam_number.specs.Formulas.{IsScale, product_centre, product_spread, product_low, product_high, ratio_low, ratio_high};
+ghost use Rattle.lam_fraction.specs.numbers.Ends.{reach, width};
+ghost use Rattle.lam_fraction.specs.inside.FixedEnds.{IsScale, product_centre, product_spread, product_low, product_high, ratio_low, ratio_high};
 ghost use Rattle.lam_number.specs.Signs.{sign_of};
-ghost use Rattle.lam_number.specs.Rounding.{floor_over, ceil_over, root_floor};
+ghost use Rattle.lam_number.specs.inside.FixNumbers.{fix_numbers};
+ghost use Rattle.lam_fraction.specs.numbers.Rounding.{floor_over, ceil_over, root_floor};
 
 use crate::enclosure::Sign;
 use crate::fix::Fix;
 use crate::wide::{
-    ceil_quotient, end_difference, end_product, end_sum, floor_quotient, narrow, product,
-    scaled_root, shift_down, shift_up, spread, spread_sum, sum_size, unit,
+    ceil_quotient, end_difference, end_sum, floor_quotient, scaled_root, shift_down, shift_up,
+    spread, spread_sum, sum_size,
 };
+use lam_fraction::machine::{narrow, product_of_wide, two_to, wide_product};
 
 /// The sum, end by end.
 pub(crate) fn sum<const S: u32>(x: Fix<S>, y: Fix<S>) -> Fix<S>
     requires scale { IsScale S }
     requires room { reach x.low x.high + reach y.low y.high ≤ 6 * 2 ^ S }
-    ensures low { result.low ≡ x.entry.low +ℤ y.entry.low }
-    ensures high { result.high ≡ x.entry.high +ℤ y.entry.high }
+    ensures { result ≡ (fix_numbers S).calc.sum x.entry y.entry }
 {
     Fix {
         low: narrow(end_sum(x.low, y.low)),
@@ -34,8 +35,7 @@ pub(crate) fn sum<const S: u32>(x: Fix<S>, y: Fix<S>) -> Fix<S>
 pub(crate) fn difference<const S: u32>(x: Fix<S>, y: Fix<S>) -> Fix<S>
     requires scale { IsScale S }
     requires room { reach x.low x.high + reach y.low y.high ≤ 6 * 2 ^ S }
-    ensures low { result.low ≡ x.entry.low -ℤ y.entry.high }
-    ensures high { result.high ≡ x.entry.high -ℤ y.entry.low }
+    ensures { result ≡ (fix_numbers S).calc.difference x.entry y.entry }
 {
     Fix {
         low: narrow(end_difference(x.low, y.high)),
@@ -49,7 +49,7 @@ fn centre_of_product<const S: u32>(x: Fix<S>, y: Fix<S>) -> i128
     requires scale { IsScale S }
     ensures { result ≡ product_centre x.entry.low x.entry.high y.entry.low y.entry.high }
 {
-    product(end_sum(x.low, x.high), end_sum(y.low, y.high))
+    product_of_wide(end_sum(x.low, x.high), end_sum(y.low, y.high))
 }
 
 /// How far four times a product of held numbers lies from the product of the doubled middles.
@@ -88,8 +88,7 @@ fn high_within(centre: i128, spread: u128, scale: u32) -> i64
 pub(crate) fn multiple<const S: u32>(x: Fix<S>, y: Fix<S>) -> Fix<S>
     requires scale { IsScale S }
     requires room { reach x.low x.high * reach y.low y.high ≤ 6 * (2 ^ S * 2 ^ S) }
-    ensures low { result.low ≡ product_low S x.entry.low x.entry.high y.entry.low y.entry.high }
-    ensures high { result.high ≡ product_high S x.entry.low x.entry.high y.entry.low y.entry.high }
+    ensures { result ≡ (fix_numbers S).calc.product x.entry y.entry }
 {
     let centre = centre_of_product(x, y);
     let spread = spread_of_product(x, y);
@@ -103,8 +102,7 @@ pub(crate) fn multiple<const S: u32>(x: Fix<S>, y: Fix<S>) -> Fix<S>
 pub(crate) fn squared<const S: u32>(x: Fix<S>) -> Fix<S>
     requires scale { IsScale S }
     requires room { reach x.low x.high ≤ 2 * 2 ^ S }
-    ensures low { result.low ≡ product_low S x.entry.low x.entry.high x.entry.low x.entry.high }
-    ensures high { result.high ≡ product_high S x.entry.low x.entry.high x.entry.low x.entry.high }
+    ensures { result ≡ (fix_numbers S).calc.square x.entry }
 {
     multiple(x, x)
 }
@@ -115,15 +113,14 @@ fn end_times(end: i64, k: i64, scale: u32) -> i64
     requires room { unsigned_abs end * unsigned_abs k ≤ 6 * 2 ^ scale }
     ensures { result ≡ end *ℤ k }
 {
-    narrow(end_product(end, k))
+    narrow(wide_product(end, k))
 }
 
 /// The product with a whole number, from the lesser of the ends' products to the greater.
 pub(crate) fn whole_multiple<const S: u32>(x: Fix<S>, k: i64) -> Fix<S>
     requires scale { IsScale S }
     requires room { reach x.low x.high * unsigned_abs k ≤ 6 * 2 ^ S }
-    ensures low { result.low ≡ int_min (x.entry.low *ℤ k) (x.entry.high *ℤ k) }
-    ensures high { result.high ≡ int_max (x.entry.low *ℤ k) (x.entry.high *ℤ k) }
+    ensures { result ≡ (fix_numbers S).calc.multiple x.entry k }
 {
     let from_low = end_times(x.low, k, S);
     let from_high = end_times(x.high, k, S);
@@ -159,7 +156,7 @@ fn in_units(num: i128, scale: u32) -> i128
     ensures value { result ≡ num *ℤ pos (2 ^ scale) }
     ensures bound { unsigned_abs result ≤ 2 ^ 126 }
 {
-    product(num, unit(scale) as i128)
+    product_of_wide(num, two_to(scale) as i128)
 }
 
 /// The low end of a ratio.
@@ -190,8 +187,7 @@ pub(crate) fn ratio<const S: u32>(num: i128, den: i128) -> Fix<S>
     requires positive { pos 0 <ℤ den }
     requires num { unsigned_abs num ≤ 2 ^ 66 }
     requires room { unsigned_abs num ≤ 6 * unsigned_abs den }
-    ensures low { result.low ≡ ratio_low S num den }
-    ensures high { result.high ≡ ratio_high S num den }
+    ensures { result ≡ (fix_numbers S).calc.ratio num den }
 {
     Fix {
         low: ratio_floor(num, den, S),
@@ -218,8 +214,7 @@ fn end_ceil(end: i64, k: i64) -> i64
 /// The quotient by a positive whole number.
 pub(crate) fn whole_quotient<const S: u32>(x: Fix<S>, k: i64) -> Fix<S>
     requires { pos 1 ≤ℤ k }
-    ensures low { result.low ≡ floor_over x.entry.low (unsigned_abs k) }
-    ensures high { result.high ≡ ceil_over x.entry.high (unsigned_abs k) }
+    ensures { result ≡ (fix_numbers S).calc.quotient x.entry k }
 {
     Fix {
         low: end_floor(x.low, k),
@@ -231,8 +226,7 @@ pub(crate) fn whole_quotient<const S: u32>(x: Fix<S>, k: i64) -> Fix<S>
 pub(crate) fn root<const S: u32>(x: Fix<S>) -> Fix<S>
     requires scale { IsScale S }
     requires sign { pos 0 ≤ℤ x.high }
-    ensures low { result.low ≡ pos 0 }
-    ensures high { result.high ≡ pos (root_floor (unsigned_abs x.entry.high * 2 ^ S) + 1) }
+    ensures { result ≡ (fix_numbers S).root x.entry }
 {
     Fix {
         low: 0,
@@ -242,8 +236,7 @@ pub(crate) fn root<const S: u32>(x: Fix<S>) -> Fix<S>
 
 /// From the lesser low end to the greater high end.
 pub(crate) fn joined<const S: u32>(x: Fix<S>, y: Fix<S>) -> Fix<S>
-    ensures low { result.low ≡ int_min x.entry.low y.entry.low }
-    ensures high { result.high ≡ int_max x.entry.high y.entry.high }
+    ensures { result ≡ (fix_numbers S).hull x.entry y.entry }
 {
     Fix {
         low: x.low.min(y.low),
@@ -266,7 +259,7 @@ pub(crate) fn sign_of_ends(low: i64, high: i64, margin: i64) -> Sign
 }
 
 /// Half the sum of the ends, rounded down.
-#[tactic(auto, unfolding(crate::specs::Rounding::floor_over))]
+#[tactic(auto, unfolding(lam_fraction::specs::numbers::Rounding::floor_over))]
 pub(crate) fn half_sum(low: i64, high: i64) -> i64
     ensures { result ≡ floor_over (low +ℤ high) 2 }
 {

@@ -2,18 +2,21 @@
 //! between them, and the arithmetic that keeps what they hold.
 #![tactic(auto)]
 
-mod arithmetic;
+// what a kind of enclosure computes and promises
 mod enclosure;
+// two ends in fixed point
 mod fix;
-mod fixed;
-mod products;
-mod scales;
-mod strength;
+// sums, sizes and quotients in 128 bits
 mod wide;
+// the calls of fixed point, for every scale
+mod arithmetic;
+// fixed point as an enclosure, at the two scales
+mod scales;
+// a verdict, and the strains at a face
+mod strength;
 
 pub use enclosure::{Enclosure, Sign};
 pub use fix::Fix;
-pub use products::sum_of_products;
 pub use strength::{FaceStrain, Verdict};
 
 #[cfg(test)]

@@ -1,12 +1,13 @@
 //! The two scales of fixed point.
 
 ghost use Rattle.std.specs.Prelude.{pos, refl};
-ghost use Rattle.lam_number.specs.FixValues.{fix_values};
 ghost use Rattle.std.proofs.Common.{rules};
+ghost use Rattle.lam_number.specs.inside.FixNumbers.{fix_numbers};
+ghost use Rattle.lam_number.specs.inside.FixLaws.{fix_lawful};
 
+use crate::arithmetic;
 use crate::enclosure::{Enclosure, Sign};
 use crate::fix::Fix;
-use crate::{arithmetic, fixed};
 
 impl Enclosure for Fix<60> {
     const SCALE: u32 = 60;
@@ -17,19 +18,13 @@ impl Enclosure for Fix<60> {
 
     ghost SLOP = { pos 2 };
 
-    ghost low_end = { λ x. x.low };
+    ghost numbers = { fix_numbers 60 };
 
-    ghost high_end = { λ x. x.high };
+    ghost scale_law = { refl };
 
-    ghost values = { fix_values 60 };
+    ghost slop_law = { refl };
 
-    ghost ends_law = { λ x. (refl, refl) };
-
-    ghost order_law = { λ x. x.ordered };
-
-    ghost scale_law = { Prim.search rules };
-
-    ghost slop_law = { Prim.search rules };
+    ghost laws = { fix_lawful 60 (Prim.search rules) };
 
     fn low(self) -> i64 {
         self.low
@@ -40,39 +35,39 @@ impl Enclosure for Fix<60> {
     }
 
     fn of_ratio(num: i128, den: i128) -> Fix<60> {
-        fixed::ratio::<60>(num, den)
+        arithmetic::ratio::<60>(num, den)
     }
 
     fn add(self, other: Fix<60>) -> Fix<60> {
-        fixed::add(self, other)
+        arithmetic::sum(self, other)
     }
 
     fn sub(self, other: Fix<60>) -> Fix<60> {
-        fixed::sub(self, other)
+        arithmetic::difference(self, other)
     }
 
     fn mul(self, other: Fix<60>) -> Fix<60> {
-        fixed::mul(self, other)
+        arithmetic::multiple(self, other)
     }
 
     fn times_whole(self, k: i64) -> Fix<60> {
-        fixed::times_whole(self, k)
+        arithmetic::whole_multiple(self, k)
     }
 
     fn over_positive(self, k: i64) -> Fix<60> {
-        fixed::over_positive(self, k)
+        arithmetic::whole_quotient(self, k)
     }
 
     fn square(self) -> Fix<60> {
-        fixed::square(self)
+        arithmetic::squared(self)
     }
 
     fn root_up(self) -> Fix<60> {
-        fixed::root_up(self)
+        arithmetic::root(self)
     }
 
     fn hull(self, other: Fix<60>) -> Fix<60> {
-        fixed::hull(self, other)
+        arithmetic::joined(self, other)
     }
 
     fn sign(self, margin: i64) -> Sign {
@@ -93,19 +88,13 @@ impl Enclosure for Fix<28> {
 
     ghost SLOP = { pos 2 };
 
-    ghost low_end = { λ x. x.low };
+    ghost numbers = { fix_numbers 28 };
 
-    ghost high_end = { λ x. x.high };
+    ghost scale_law = { refl };
 
-    ghost values = { fix_values 28 };
+    ghost slop_law = { refl };
 
-    ghost ends_law = { λ x. (refl, refl) };
-
-    ghost order_law = { λ x. x.ordered };
-
-    ghost scale_law = { Prim.search rules };
-
-    ghost slop_law = { Prim.search rules };
+    ghost laws = { fix_lawful 28 (Prim.search rules) };
 
     fn low(self) -> i64 {
         self.low
@@ -116,39 +105,39 @@ impl Enclosure for Fix<28> {
     }
 
     fn of_ratio(num: i128, den: i128) -> Fix<28> {
-        fixed::ratio::<28>(num, den)
+        arithmetic::ratio::<28>(num, den)
     }
 
     fn add(self, other: Fix<28>) -> Fix<28> {
-        fixed::add(self, other)
+        arithmetic::sum(self, other)
     }
 
     fn sub(self, other: Fix<28>) -> Fix<28> {
-        fixed::sub(self, other)
+        arithmetic::difference(self, other)
     }
 
     fn mul(self, other: Fix<28>) -> Fix<28> {
-        fixed::mul(self, other)
+        arithmetic::multiple(self, other)
     }
 
     fn times_whole(self, k: i64) -> Fix<28> {
-        fixed::times_whole(self, k)
+        arithmetic::whole_multiple(self, k)
     }
 
     fn over_positive(self, k: i64) -> Fix<28> {
-        fixed::over_positive(self, k)
+        arithmetic::whole_quotient(self, k)
     }
 
     fn square(self) -> Fix<28> {
-        fixed::square(self)
+        arithmetic::squared(self)
     }
 
     fn root_up(self) -> Fix<28> {
-        fixed::root_up(self)
+        arithmetic::root(self)
     }
 
     fn hull(self, other: Fix<28>) -> Fix<28> {
-        fixed::hull(self, other)
+        arithmetic::joined(self, other)
     }
 
     fn sign(self, margin: i64) -> Sign {

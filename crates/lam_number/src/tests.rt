@@ -1,6 +1,9 @@
 //! Worked values at the edges of the conditions.
 
-use crate::{Enclosure, Fix, Sign, sum_of_products};
+ghost use Rattle.std.specs.Prelude.{pos, negsuc, ◌^◌, ◌≤ℤ◌};
+ghost use Rattle.lam_fraction.specs.numbers.Numbers.{SumRoom, ProductRoom, MultipleRoom, SquareRoom, RootRoom, HullRoom};
+
+use crate::{Enclosure, Fix, Sign};
 
 /// One at 60 bits.
 const ONE: i64 = 1152921504606846976;
@@ -24,11 +27,12 @@ fn a_ratio_is_rounded_outwards(rt: HostRuntime) {
     expect_ends!(rt; Fix::<28>::of_ratio(-1, 3), -89478486, -89478485);
     expect_ends!(rt; Fix::<60>::of_ratio(6, 1), 6917529027641081856, 6917529027641081856);
     expect_ends!(rt; Fix::<60>::of_ratio(73786976294838206464, 73786976294838206464), ONE, ONE);
-    expect_ends!(rt; Fix::<28>::of_ratio(-73786976294838206464, 73786976294838206464), -QUICK_ONE, -QUICK_ONE);
+    let great = 73786976294838206464;
+    expect_ends!(rt; Fix::<28>::of_ratio(-great, great), -QUICK_ONE, -QUICK_ONE);
 }
 
 #[test]
-#[tactic(auto, unfolding(crate::specs::Ends::reach))]
+#[tactic(auto, unfolding(lam_fraction::specs::numbers::Ends::reach))]
 fn sums_and_differences_pair_their_ends(rt: HostRuntime) {
     let three = Fix::<60> {
         low: 3 * ONE,
@@ -47,7 +51,7 @@ fn sums_and_differences_pair_their_ends(rt: HostRuntime) {
 }
 
 #[test]
-#[tactic(auto, unfolding(crate::specs::Ends::reach))]
+#[tactic(auto, unfolding(lam_fraction::specs::numbers::Ends::reach))]
 fn a_product_reaches_six_units(rt: HostRuntime) {
     let two = Fix::<60> {
         low: 2 * ONE,
@@ -81,13 +85,14 @@ fn a_product_reaches_six_units(rt: HostRuntime) {
 }
 
 #[test]
-#[tactic(auto, unfolding(crate::specs::Ends::reach))]
+#[tactic(auto, unfolding(lam_fraction::specs::numbers::Ends::reach))]
 fn a_multiple_by_a_negative_number_swaps_the_ends(rt: HostRuntime) {
     expect_ends!(rt; Fix::<60> { low: -3, high: 5 }.times_whole(-2), -10, 6);
     expect_ends!(rt; Fix::<60> { low: -3, high: 5 }.times_whole(2), -6, 10);
     expect_ends!(rt; Fix::<60> { low: 0, high: 0 }.times_whole(i64::MIN), 0, 0);
     expect_ends!(rt; Fix::<60> { low: -1, high: 1 }.times_whole(-6 * ONE), -6 * ONE, 6 * ONE);
-    expect_ends!(rt; Fix::<28> { low: 2, high: 3 }.times_whole(-2 * QUICK_ONE), -6 * QUICK_ONE, -4 * QUICK_ONE);
+    let few = Fix::<28> { low: 2, high: 3 };
+    expect_ends!(rt; few.times_whole(-2 * QUICK_ONE), -6 * QUICK_ONE, -4 * QUICK_ONE);
 }
 
 #[test]
@@ -116,7 +121,7 @@ fn a_root_is_one_above_the_whole_root(rt: HostRuntime) {
 }
 
 #[test]
-#[tactic(auto, unfolding(crate::specs::Ends::reach))]
+#[tactic(auto, unfolding(lam_fraction::specs::numbers::Ends::reach))]
 fn a_hull_goes_from_the_lesser_low_to_the_greater_high(rt: HostRuntime) {
     let first = Fix::<60> { low: 1, high: 3 };
     let second = Fix::<60> { low: -2, high: 2 };
@@ -172,25 +177,81 @@ fn a_middle_is_rounded_down(rt: HostRuntime) {
     );
 }
 
+/// The ends of the answer of each call, through the bound alone.
+fn each_call<N: Enclosure>(x: N, y: N) -> [(i64, i64); 9]
+    requires sum { SumRoom N.numbers x y }
+    requires product { ProductRoom N.numbers x y }
+    requires multiple { MultipleRoom N.numbers y (negsuc 2) }
+    requires square { SquareRoom N.numbers y }
+    requires root { RootRoom N.numbers y }
+    requires hull { HullRoom N.numbers x y }
+{
+    [
+        ends(N::of_ratio(1, 4)),
+        ends(x.add(y)),
+        ends(x.sub(y)),
+        ends(x.mul(y)),
+        ends(y.times_whole(-3)),
+        ends(y.over_positive(3)),
+        ends(y.square()),
+        ends(y.root_up()),
+        ends(x.hull(y)),
+    ]
+}
+
+fn ends<N: Enclosure>(x: N) -> (i64, i64) {
+    (x.low(), x.high())
+}
+
+fn sign_and_middle<N: Enclosure>(x: N) -> (Sign, Sign, i64) {
+    (x.sign(0), x.sign(i64::MAX), x.middle())
+}
+
+/// What `each_call` gives at exactly a half, and at a quarter and one part to each side.
+fn half_and_quarter(one: i64) -> [(i64, i64); 9]
+    requires { (pos 16 ≤ℤ one) × (one ≤ℤ pos (2 ^ 60)) }
+{
+    let quarter = one / 4;
+    [
+        (quarter, quarter),
+        (one / 2 + quarter - 1, one / 2 + quarter + 1),
+        (quarter - 1, quarter + 1),
+        (one / 8 - 1, one / 8 + 1),
+        (-3 * quarter - 3, -3 * quarter + 3),
+        ((quarter - 1) / 3, (quarter - 1) / 3 + 1),
+        (one / 16 - 1, one / 16 + 1),
+        (0, one / 2 + 1),
+        (quarter - 1, one / 2),
+    ]
+}
+
 #[test]
-#[tactic(auto, unfolding(crate::specs::Ends::reach, crate::specs::Ends::width))]
-fn products_add_up_through_the_trait(rt: HostRuntime) {
+#[tactic(auto, unfolding(lam_fraction::specs::numbers::Ends::reach))]
+fn each_call_serves_both_scales(rt: HostRuntime) {
     let half = Fix::<60> {
         low: ONE / 2,
         high: ONE / 2,
     };
-    let three = Fix::<60> {
-        low: 3 * ONE,
-        high: 3 * ONE,
+    let quarter = Fix::<60> {
+        low: ONE / 4 - 1,
+        high: ONE / 4 + 1,
     };
-    let near_two = Fix::<60> {
-        low: 2 * ONE - 2,
-        high: 2 * ONE,
+    assert_eq!(rt; each_call(half, quarter), half_and_quarter(ONE));
+    assert_eq!(rt;
+        sign_and_middle(quarter),
+        (Sign::Above, Sign::Mixed, ONE / 4)
+    );
+    let half = Fix::<28> {
+        low: QUICK_ONE / 2,
+        high: QUICK_ONE / 2,
     };
-    expect_ends!(rt; sum_of_products(half, three, half, near_two), 5 * (ONE / 2) - 1, 5 * (ONE / 2));
-    let quick = Fix::<28> {
-        low: QUICK_ONE,
-        high: QUICK_ONE,
+    let quarter = Fix::<28> {
+        low: QUICK_ONE / 4 - 1,
+        high: QUICK_ONE / 4 + 1,
     };
-    expect_ends!(rt; sum_of_products(quick, quick, quick, quick), 2 * QUICK_ONE, 2 * QUICK_ONE);
+    assert_eq!(rt; each_call(half, quarter), half_and_quarter(QUICK_ONE));
+    assert_eq!(rt;
+        sign_and_middle(quarter),
+        (Sign::Above, Sign::Mixed, QUICK_ONE / 4)
+    );
 }

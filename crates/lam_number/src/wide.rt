@@ -2,21 +2,10 @@
 
 ghost use Rattle.std.specs.Prelude.{◌≡◌, ◌+◌, ◌*◌, ◌^◌, ◌<◌, ◌≤◌, ℤ, pos, neg_ℤ, ◌+ℤ◌, ◌-ℤ◌, ◌*ℤ◌, ◌≤ℤ◌, ◌<ℤ◌, unsigned_abs, FitsSigned};
 ghost use Rattle.std.specs.Int.{w64, w128};
-ghost use Rattle.lam_number.specs.Ends.{width};
-ghost use Rattle.lam_number.specs.Rounding.{floor_over, ceil_over, root_floor};
+ghost use Rattle.lam_fraction.specs.numbers.Ends.{width};
+ghost use Rattle.lam_fraction.specs.numbers.Rounding.{floor_over, ceil_over, root_floor};
 
-use num_traits::cast;
-
-/// The same number in 64 bits.
-pub(crate) fn narrow(value: i128) -> i64
-    requires { FitsSigned w64 value }
-    ensures { result ≡ value }
-{
-    match cast(value) {
-        Some(narrowed) => narrowed,
-        None => unreachable!(),
-    }
-}
+use lam_fraction::machine::two_to;
 
 /// The sum of two ends.
 pub(crate) fn end_sum(a: i64, b: i64) -> i128
@@ -32,21 +21,6 @@ pub(crate) fn end_difference(a: i64, b: i64) -> i128
     a as i128 - b as i128
 }
 
-/// The product of two ends.
-pub(crate) fn end_product(a: i64, b: i64) -> i128
-    ensures { result ≡ a *ℤ b }
-{
-    a as i128 * b as i128
-}
-
-/// The product of two wide numbers.
-pub(crate) fn product(a: i128, b: i128) -> i128
-    requires { FitsSigned w128 (a *ℤ b) }
-    ensures { result ≡ a *ℤ b }
-{
-    a * b
-}
-
 /// The width between two ends.
 pub(crate) fn spread(low: i64, high: i64) -> u128
     ensures value { result ≡ width low high }
@@ -55,16 +29,8 @@ pub(crate) fn spread(low: i64, high: i64) -> u128
     high.abs_diff(low) as u128
 }
 
-/// The power of two of a scale.
-pub(crate) fn unit(scale: u32) -> u128
-    requires { scale ≤ 66 }
-    ensures { result ≡ 2 ^ scale }
-{
-    1u128 << scale
-}
-
 /// A number over a power of two, rounded down.
-#[tactic(auto, unfolding(crate::specs::Rounding::floor_over))]
+#[tactic(auto, unfolding(lam_fraction::specs::numbers::Rounding::floor_over))]
 pub(crate) fn shift_down(value: i128, bits: u32) -> i128
     requires { bits < 128 }
     ensures { result ≡ floor_over value (2 ^ bits) }
@@ -73,7 +39,7 @@ pub(crate) fn shift_down(value: i128, bits: u32) -> i128
 }
 
 /// A number over a power of two, rounded up.
-#[tactic(auto, unfolding(crate::specs::Rounding::floor_over, crate::specs::Rounding::ceil_over))]
+#[tactic(auto, unfolding(lam_fraction::specs::numbers::Rounding::floor_over, lam_fraction::specs::numbers::Rounding::ceil_over))]
 pub(crate) fn shift_up(value: i128, bits: u32) -> i128
     requires bits { bits < 128 }
     requires negatable { FitsSigned w128 (neg_ℤ value) }
@@ -83,7 +49,7 @@ pub(crate) fn shift_up(value: i128, bits: u32) -> i128
 }
 
 /// A number over a positive one, rounded down.
-#[tactic(auto, unfolding(crate::specs::Rounding::floor_over))]
+#[tactic(auto, unfolding(lam_fraction::specs::numbers::Rounding::floor_over))]
 pub(crate) fn floor_quotient(value: i128, over: i128) -> i128
     requires { pos 0 <ℤ over }
     ensures { result ≡ floor_over value (unsigned_abs over) }
@@ -92,7 +58,7 @@ pub(crate) fn floor_quotient(value: i128, over: i128) -> i128
 }
 
 /// A number over a positive one, rounded up.
-#[tactic(auto, unfolding(crate::specs::Rounding::floor_over, crate::specs::Rounding::ceil_over))]
+#[tactic(auto, unfolding(lam_fraction::specs::numbers::Rounding::floor_over, lam_fraction::specs::numbers::Rounding::ceil_over))]
 pub(crate) fn ceil_quotient(value: i128, over: i128) -> i128
     requires positive { pos 0 <ℤ over }
     requires negatable { FitsSigned w128 (neg_ℤ value) }
@@ -107,7 +73,7 @@ pub(crate) fn scaled_root(end: i64, scale: u32) -> u128
     ensures value { result ≡ root_floor (unsigned_abs end * 2 ^ scale) }
     ensures bound { result < 2 ^ 62 }
 {
-    (end.unsigned_abs() as u128 * unit(scale)).isqrt()
+    (end.unsigned_abs() as u128 * two_to(scale)).isqrt()
 }
 
 /// The size of the sum of two ends.

@@ -1,3 +1,5 @@
+//! The calls of an object in memory that are to fail.
+
 ghost use Rattle.std.specs.Prelude.{◌≡◌, ◌↔◌, ◌∷◌, [], ◌++◌, IsTrue, OnOk, OnErr};
 ghost use Rattle.lam_outside.specs.Calls.{no_calls, with_failing, IsDue, after_call};
 

@@ -1,8 +1,10 @@
+//! Files and sinks over the system, of whose contents nothing is told.
+
 ghost use Rattle.std.specs.Prelude.{◌≡◌, ℕ, List, [], ◌≤◌, ◌+◌, None, IfOk, IfSome, OnOk, OnErr, length, IsErrOf, is_err, if◌then◌else◌};
 ghost use Rattle.std.specs.Io.KnownBytes.{Consumes};
 ghost use Rattle.lam_outside.specs.Holds.{IsTaken, TakesAtMost};
 ghost use Rattle.lam_outside.specs.Counts.{raised, stalls_at, CountsStall};
-ghost use Rattle.lam_outside.specs.HostCounts.{read_faults, write_faults, write_stalls};
+ghost use Rattle.lam_outside.specs.inside.HostCounts.{read_faults, write_faults, write_stalls};
 
 use crate::reading::{Bytes, Files, TakeFault, Taken};
 use crate::writing::{Failed, Sink};
@@ -11,7 +13,7 @@ use std::fs::File;
 use std::io::{Read, Write};
 use std::rt;
 
-// How much of a file is read in one turn.
+/// How much of a file is read in one turn: a page of memory.
 const BUFFER: usize = 4096;
 
 /// The files of the host, of whose contents nothing is told.

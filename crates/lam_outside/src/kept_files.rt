@@ -1,3 +1,5 @@
+//! Files in memory, of which chosen calls fail.
+
 ghost use Rattle.std.specs.Prelude.{◌≡◌, ◌≢◌, ◌↔◌, ◌⊎◌, ◌∷◌, [], ◌++◌, ◌+◌, ◌≤◌, ℕ, List, None, Some, IfOk, IfSome, IsSomeAnd, IsErrOf, OnOk, OnErr};
 ghost use Rattle.lam_outside.specs.Counts.{raised, Rose};
 ghost use Rattle.lam_outside.specs.Calls.{no_calls, with_failing, IsDue, after_call};
@@ -97,9 +99,11 @@ impl Files for MemoryFiles {
         ensures there { IfOk result (λ t. IsSomeAnd (told self.old name.now) (λ bytes.
             IsTaken bytes most t)) }
         ensures calls { calls_of self.new ≡ after_call (calls_of self.old) }
-        ensures raised { IsErrOf result TakeFault.Failed → (n : List ℕ) → SharesCount (told self.old) name.now n
+        ensures raised { IsErrOf result TakeFault.Failed → (n : List ℕ)
+            → SharesCount (told self.old) name.now n
             → faults_of self.new n ≡ raised (faults_of self.old n) }
-        ensures others { IsErrOf result TakeFault.Failed → (n : List ℕ) → ¬ (SharesCount (told self.old) name.now n)
+        ensures others { IsErrOf result TakeFault.Failed → (n : List ℕ)
+            → ¬ (SharesCount (told self.old) name.now n)
             → faults_of self.new n ≡ faults_of self.old n }
         ensures unraised { ¬ (IsErrOf result TakeFault.Failed)
             → (n : List ℕ) → faults_of self.new n ≡ faults_of self.old n }

@@ -2,14 +2,17 @@
 //! one implementation in memory and one over std for each.
 #![tactic(auto)]
 
+// Files that are read whole, by name, and sinks that are written piece by piece.
+mod reading;
+mod writing;
+// Both in memory, with calls that are to fail.
 mod failing;
-mod host;
 mod kept_files;
 mod memory_sink;
-mod reading;
+// Both over the system.
+mod host;
 #[cfg(test)]
 mod tests;
-mod writing;
 
 pub use host::{HostFiles, HostSink};
 pub use kept_files::MemoryFiles;

@@ -1,3 +1,5 @@
+//! A sink in memory, with a room, a step and calls that fail.
+
 ghost use Rattle.std.specs.Prelude.{◌≡◌, ◌↔◌, ◌∷◌, [], ◌++◌, ◌+◌, ◌≤◌, ◌<◌, ◌==◌, nat_lt, ◌&&◌, if◌then◌else◌, length, take, Some, IsErr, IfOk, OnOk, OnErr};
 ghost use Rattle.std.specs.Io.KnownBytes.{WriteAppends};
 ghost use Rattle.lam_outside.specs.Counts.{raised, Rose, stalls_at, CountsStall};
@@ -62,7 +64,8 @@ impl MemorySink {
 
     /// Lets the call of `put` of that number fail, counted from 1 since the making.
     pub fn fail(&mut self, call: u64) -> Result<(), AllocError>
-        ensures ok { OnOk result (self.new ≡ record self.old { calls = with_failing self.old.calls call }) }
+        ensures ok { OnOk result (self.new
+            ≡ record self.old { calls = with_failing self.old.calls call }) }
         ensures err { OnErr result (self.new ≡ self.old) }
     {
         self.calls.add(call)
@@ -107,7 +110,8 @@ impl Sink for MemorySink {
         ensures failed { OnErr result (Rose self.old.faults self.new.faults) }
         ensures stalled { CountsStall result (length piece.now) self.old.stalls self.new.stalls }
         ensures terms { terms_of self.new ≡ terms_of self.old }
-        ensures written { WriteAppends (Some self.old.written) (Some self.new.written) result piece.now }
+        ensures written { WriteAppends (Some self.old.written) (Some self.new.written)
+            result piece.now }
     {
         if self.calls.count() {
             self.faults = self.faults.saturating_add(1);

@@ -1,3 +1,5 @@
+//! Files that are read whole, by name, and what reading one answers.
+
 ghost use Rattle.std.specs.Prelude.{◌≡◌, ℕ, ◌≤◌, List, Option, IfOk, IfSome, IsErrOf};
 ghost use Rattle.lam_outside.specs.Counts.{Rose};
 

@@ -1,3 +1,5 @@
+//! Sinks that are written piece by piece, and writing a text into one.
+
 ghost use Rattle.std.specs.Prelude.{◌≡◌, ℕ, ◌≤◌, List, length, Option, IfOk, OnErr, IsErrOf};
 ghost use Rattle.std.specs.Io.KnownBytes.{WriteAppends};
 ghost use Rattle.lam_outside.specs.Counts.{Rose, CountsStall};
@@ -40,7 +42,8 @@ pub trait Sink {
         ensures faults_never_fall { faults self.old ≤ faults self.new }
         ensures stalls_never_fall { stalls self.old ≤ stalls self.new }
         ensures failed { OnErr result (Rose (faults self.old) (faults self.new)) }
-        ensures stalled { CountsStall result (length piece.now) (stalls self.old) (stalls self.new) }
+        ensures stalled { CountsStall result (length piece.now)
+            (stalls self.old) (stalls self.new) }
         ensures terms { terms self.new ≡ terms self.old }
         ensures written { WriteAppends (written self.old) (written self.new) result piece.now };
 }
@@ -69,7 +72,7 @@ pub fn put_all<K: Sink>(sink: &mut K, piece: &[u8]) -> Result<(), WriteFault>
     Ok(())
 }
 
-// How many bytes of a text are put at once.
+/// How many bytes of a text are put at once.
 const PIECE: usize = 64;
 
 /// Puts all of `text` in pieces of 64 bytes, the last with what is left.

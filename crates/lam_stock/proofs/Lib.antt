@@ -4,7 +4,14 @@ pub mod Quotients
 pub mod TextRows
 pub mod TestFacts
 pub mod Columns
+pub mod Truth
+pub mod NumberLaws
+pub mod Names
 pub mod ScaleSteps
 pub mod ScaleFacts
 pub mod Meaning
+pub mod Angles
+pub mod EnergyTransformed
+pub mod StrengthBounds
 pub mod PlyLawTrials
+pub mod LayerTrials

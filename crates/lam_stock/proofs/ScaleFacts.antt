@@ -1,4 +1,4 @@
--- What the scale of some items is: the least power of two that covers them, and the least softness.
+-- What the scale of some items is: the least power of two that covers them, and the least stiffness floor.
 use Rattle.std.proofs.Common.{◌≡◌, ◌<◌, ◌≤◌, ◌+◌, ◌*◌, ◌^◌, ℕ, zero, suc, Bool, true, false, nat_le, List, [], ◌∷◌, length, ℤ, pos, negsuc, ◌≤ℤ◌, unsigned_abs, refl, ap, ◌∙◌, arith}
 use mathlib.Core.Logic.{◌⊎◌, inl, inr, ⊎_elim}
 use Rattle.std.specs.Int.{int_max, int_min}
@@ -8,8 +8,8 @@ use Rattle.std.proofs.lemmas.Bool.Decides.{nat_tests}
 use Rattle.std.proofs.lemmas.Int.{clamps, ints}
 use Rattle.std.proofs.lemmas.List.Elements.{All-cons, All-head, All-nil, All-tail, All-weaker}
 use Rattle.std.proofs.Math.Nat.{pow-suc, pow-le-pow_right}
-use Rattle.lam_stock.specs.Moduli.{softness, stiffness}
-use Rattle.lam_stock.specs.Scale.{IsScaleOf, first_power, power_above, scale_of, softest, stiffest}
+use Rattle.lam_stock.specs.Moduli.{stiffness_floor, stiffness_cap}
+use Rattle.lam_stock.specs.Scale.{IsScaleOf, first_power, power_above, scale_of, least_floor, greatest_cap}
 use Rattle.lam_stock.specs.Stock.{IsStock, WithinLimits}
 use Rattle.lam_stock.specs.declared.item.Item.{Item}
 use Rattle.lam_stock.specs.declared.scale.Scale.{Scale}
@@ -85,11 +85,11 @@ size-of : (x : ℤ) → pos 0 ≤ℤ x → pos (unsigned_abs x) ≡ x
 size-of (pos n) h = refl
 size-of (negsuc n) h = absurd (omega (arith, ints))
 
-stiffness-greatest : (i : Item) → WithinLimits i → stiffness i.lamina ≤ℤ pos 1600000
-stiffness-greatest i w = let m = w.limits.range.moduli in omega (arith, ints, clamps, m.greatest_e1, m.greatest_e2, m.greatest_g12)
+stiffness_cap-greatest : (i : Item) → WithinLimits i → stiffness_cap i.lamina ≤ℤ pos 1600000
+stiffness_cap-greatest i w = let m = w.limits.range.moduli in omega (arith, ints, clamps, m.greatest_e1, m.greatest_e2, m.greatest_g12)
 
-stiffness-least : (i : Item) → WithinLimits i → pos 4000 ≤ℤ stiffness i.lamina
-stiffness-least i w = let m = w.limits.range.moduli in omega (arith, ints, clamps, m.least_e1, m.least_e2)
+stiffness_cap-least : (i : Item) → WithinLimits i → pos 4000 ≤ℤ stiffness_cap i.lamina
+stiffness_cap-least i w = let m = w.limits.range.moduli in omega (arith, ints, clamps, m.least_e1, m.least_e2)
 
 reached_by : (a b c : ℤ) → a ≤ℤ b → b ≤ℤ c → a ≤ℤ c
 reached_by a b c low high = omega (arith, ints)
@@ -97,8 +97,8 @@ reached_by a b c low high = omega (arith, ints)
 power_within : (q : ℤ) (power : ℕ) → q ≡ pos power → power ≤ 2097152 → q ≤ℤ pos 2097152
 power_within q power is few = omega (arith, ints)
 
-softness-greatest : (i : Item) → WithinLimits i → softness i.lamina ≤ℤ pos 400000
-softness-greatest i w = let m = w.limits.range.moduli in omega (arith, ints, clamps, m.greatest_g12)
+stiffness_floor-greatest : (i : Item) → WithinLimits i → stiffness_floor i.lamina ≤ℤ pos 400000
+stiffness_floor-greatest i w = let m = w.limits.range.moduli in omega (arith, ints, clamps, m.greatest_g12)
 
 covered : (x top : ℤ) (size power whole : ℕ) → x ≤ℤ top → pos size ≡ top → power ≡ whole → size ≤ whole → x ≤ℤ pos power
 covered x top size power whole le is_size is_whole enough = omega (arith, ints, le, is_size)
@@ -113,38 +113,38 @@ no_less j k top size power is_size is_power least enough =
 same_by_order : (low x top : ℤ) → low ≡ top → low ≤ℤ x → x ≤ℤ top → low ≡ x
 same_by_order low x top e below above = grind (arith, ints)
 
--- where no item is softer than the number that the search begins with, the first item reaches it
-first_reached : (items : List Item) → 1 ≤ length items → All WithinLimits items → softest items ≡ pos 400000
-    → All (λ (i : Item). softest items ≤ℤ softness i.lamina) items → Any (λ (i : Item). softest items ≡ softness i.lamina) items
+-- where no stiffness floor is below the number that the search begins with, that of the first item reaches it
+first_reached : (items : List Item) → 1 ≤ length items → All WithinLimits items → least_floor items ≡ pos 400000
+    → All (λ (i : Item). least_floor items ≤ℤ stiffness_floor i.lamina) items → Any (λ (i : Item). least_floor items ≡ stiffness_floor i.lamina) items
 first_reached [] some limits e below = absurd (omega arith)
 first_reached (i ∷ items) some limits e below =
-    let low = All-head (λ (j : Item). softest (i ∷ items) ≤ℤ softness j.lamina) i items below in
-    let high = softness-greatest i (All-head WithinLimits i items limits) in
-    (0, i, omega arith, refl, same_by_order (softest (i ∷ items)) (softness i.lamina) (pos 400000) e low high)
+    let low = All-head (λ (j : Item). least_floor (i ∷ items) ≤ℤ stiffness_floor j.lamina) i items below in
+    let high = stiffness_floor-greatest i (All-head WithinLimits i items limits) in
+    (0, i, omega arith, refl, same_by_order (least_floor (i ∷ items)) (stiffness_floor i.lamina) (pos 400000) e low high)
 
 -- the scale that is found is that of the items
 pub scale-is : (items : List Item) → 1 ≤ length items → All WithinLimits items
     → IsScaleOf items (scale_of items) × ((k : ℕ) × (k ≤ 21) × ((scale_of items).q0 ≡ pos (2 ^ k)))
 scale-is items some limits =
-    let stiff : Item → ℤ = λ i. stiffness i.lamina in
-    let soft : Item → ℤ = λ i. softness i.lamina in
-    let top = stiffest items in
+    let cap : Item → ℤ = λ i. stiffness_cap i.lamina in
+    let floor : Item → ℤ = λ i. stiffness_floor i.lamina in
+    let top = greatest_cap items in
     let size = unsigned_abs top in
-    let above = greatest-above stiff (pos 0) items top refl in
-    let below = least-below soft (pos 400000) items (softest items) refl in
+    let above = greatest-above cap (pos 0) items top refl in
+    let below = least-below floor (pos 400000) items (least_floor items) refl in
     let is_size : pos size ≡ top = size-of top above.0 in
-    let each : All (λ (i : Item). stiff i ≤ℤ pos 1600000) items = All-weaker WithinLimits (λ (i : Item). stiff i ≤ℤ pos 1600000) stiffness-greatest items limits in
-    let few : top ≤ℤ pos 1600000 = greatest-least stiff (pos 0) (pos 1600000) items top refl (omega (arith, ints)) each in
+    let each : All (λ (i : Item). cap i ≤ℤ pos 1600000) items = All-weaker WithinLimits (λ (i : Item). cap i ≤ℤ pos 1600000) stiffness_cap-greatest items limits in
+    let few : top ≤ℤ pos 1600000 = greatest-least cap (pos 0) (pos 1600000) items top refl (omega (arith, ints)) each in
     let small : size ≤ 1600000 = omega (arith, ints, is_size, few) in
     let found = power-facts 64 0 size (omega (arith, small)) in
-    let covers : All (λ (i : Item). stiff i ≤ℤ pos (power_above size)) items = All-weaker (λ (i : Item). stiff i ≤ℤ top) (λ (i : Item). stiff i ≤ℤ pos (power_above size))
-    (λ i le. covered (stiff i) top size (power_above size) (2 ^ found.0) le is_size found.1 found.2) items above.1 in (
+    let covers : All (λ (i : Item). cap i ≤ℤ pos (power_above size)) items = All-weaker (λ (i : Item). cap i ≤ℤ top) (λ (i : Item). cap i ≤ℤ pos (power_above size))
+    (λ i le. covered (cap i) top size (power_above size) (2 ^ found.0) le is_size found.1 found.2) items above.1 in (
       record {
         power = (found.0, ap pos found.1);
         covers = covers;
-        least_power = λ k all. no_less found.0 k top size (power_above size) is_size found.1 found.3 (greatest-least stiff (pos 0) (pos (2 ^ k)) items top refl (omega (arith, ints)) all);
+        least_power = λ k all. no_less found.0 k top size (power_above size) is_size found.1 found.3 (greatest-least cap (pos 0) (pos (2 ^ k)) items top refl (omega (arith, ints)) all);
         below = below.1;
-        reached = ⊎_elim (λ e. first_reached items some limits e below.1) (λ h. h) (least-reached soft (pos 400000) items (softest items) refl);
+        reached = ⊎_elim (λ e. first_reached items some limits e below.1) (λ h. h) (least-reached floor (pos 400000) items (least_floor items) refl);
       },
       (found.0, found.3 21 (omega arith) (omega (arith, small)), ap pos found.1),
     )
@@ -154,19 +154,19 @@ pub scale-kept : (items now : List Item) (scale : Scale) → IsStock items scale
     → IsScaleOf now scale × ((k : ℕ) × (k ≤ 21) × (scale.q0 ≡ pos (2 ^ k)))
 scale-kept items now scale stock same = rw (← same, stock.scale_is) (scale-is items stock.some stock.limits)
 
--- no item is stiffer than the limits let it be, and the first is as stiff as they ask
+-- no item is stiffer than the limits let it be, and the first is as cap as they ask
 pub scale-within : (items now : List Item) (scale : Scale) → IsStock items scale → items ≡ now
     → (pos 4000 ≤ℤ scale.q0) × (scale.q0 ≤ℤ pos 2097152) × (scale.floor ≤ℤ pos 400000)
 scale-within [] now scale stock same = absurd (omega (arith, stock.some))
 scale-within (i ∷ items) now scale stock same =
     let facts = scale-kept (i ∷ items) (i ∷ items) scale stock refl in
     let limits = All-head WithinLimits i items stock.limits in
-    let covered = All-head (λ (j : Item). stiffness j.lamina ≤ℤ scale.q0) i items facts.0.covers in
-    let below = All-head (λ (j : Item). scale.floor ≤ℤ softness j.lamina) i items facts.0.below in
-    let stiff = stiffness-least i limits in
-    let soft = softness-greatest i limits in
+    let covered = All-head (λ (j : Item). stiffness_cap j.lamina ≤ℤ scale.q0) i items facts.0.covers in
+    let below = All-head (λ (j : Item). scale.floor ≤ℤ stiffness_floor j.lamina) i items facts.0.below in
+    let cap = stiffness_cap-least i limits in
+    let floor = stiffness_floor-greatest i limits in
     let powers : 2 ^ facts.1.0 ≤ 2 ^ 21 = pow-le-pow_right {n = 2} (omega arith) {i = facts.1.0} {j = 21} facts.1.1 in (
-      reached_by (pos 4000) (stiffness i.lamina) scale.q0 stiff covered,
+      reached_by (pos 4000) (stiffness_cap i.lamina) scale.q0 cap covered,
       power_within scale.q0 (2 ^ facts.1.0) facts.1.2 powers,
-      reached_by scale.floor (softness i.lamina) (pos 400000) below soft,
+      reached_by scale.floor (stiffness_floor i.lamina) (pos 400000) below floor,
     )

@@ -6,7 +6,7 @@ use Rattle.csv.specs.Reading.{Reached, ReadRecord, default_config, reader_state,
 use Rattle.csv.specs.declared.parser.Config.{Config}
 use Rattle.csv.specs.declared.parser.State.{State}
 use Rattle.csv.specs.declared.parser.State.TheVariants as st
-use Rattle.lam_stock.specs.Rows.{IsRowReader, SliceReader, TakesRow, bytes_of, rows_from, rows_of}
+use Rattle.lam_stock.specs.inside.Rows.{IsRowReader, SliceReader, TakesRow, bytes_of, rows_from, rows_of}
 
 -- what is left of a text after a record that is known
 kept : (x p : Read) (n : ℕ) → Some x ≡ Some p → length x.2 ≤ n → length p.2 ≤ n

@@ -18,6 +18,7 @@ use Rattle.lam_stock.specs.declared.item.Kind.{Kind}
 use Rattle.lam_stock.specs.declared.item.Lamina.{Lamina}
 use Rattle.lam_stock.specs.Field.{is_name, kind_of, number_of, without_blanks}
 use Rattle.lam_stock.specs.Likeness.{has_name}
+use Rattle.lam_stock.specs.LimitNumbers.{greatest_spread, most_items}
 use Rattle.lam_stock.specs.Tests.{limits_of}
 use Rattle.lam_stock.specs.Scale.{scale_of}
 
@@ -25,7 +26,7 @@ use Rattle.lam_stock.specs.Scale.{scale_of}
 abbrev pub Fields : Type 0
 Fields = List (List ℕ)
 
--- the fields of a record with no blank at either end
+-- the columns of a record: its fields with no blank at either end, since blanks round a field do not count
 abbrev pub columns_of : Fields → Fields
 columns_of fields = map without_blanks fields
 
@@ -94,7 +95,7 @@ column fields k = get_or fields k []
 -- what the fields of a record read as, after some items: an item, or the first cause that holds
 abbrev pub item_of : List Item → Fields → Result Item StockCause
 item_of earlier fields =
-    if nat_le 64 (length earlier) then Err cause.Many
+    if nat_le most_items (length earlier) then Err cause.Many
     else if not (length fields == 17) then Err cause.Fields
     else if not (is_name (column fields 0)) then Err cause.Name
     else if list_any (has_name (column fields 0)) earlier then Err cause.Twice
@@ -104,7 +105,7 @@ item_of earlier fields =
 abbrev pub ended : List Item → Result (List Item) StockFault
 ended [] = Err (record { row = 1; cause = cause.NoItem })
 ended (i ∷ items) =
-    if int_le (scale_of (i ∷ items)).q0 (pos 512 *ℤ (scale_of (i ∷ items)).floor)
+    if int_le (scale_of (i ∷ items)).q0 (greatest_spread *ℤ (scale_of (i ∷ items)).floor)
     then Ok (i ∷ items)
     else Err (record { row = length (i ∷ items) + 1; cause = cause.Spread })
 
@@ -113,22 +114,22 @@ abbrev pub items_after : (List Item → Result (List Item) StockFault) → List 
 items_after more earlier (Ok i) = more (earlier ++ i ∷ [])
 items_after more earlier (Err why) = Err (record { row = length earlier + 2; cause = why })
 
-unfoldable pub items_of : List Item → List Fields → Result (List Item) StockFault
-items_of earlier [] = ended earlier
-items_of earlier (row ∷ rest) = items_after (λ items. items_of items rest) earlier (item_of earlier (columns_of row))
+unfoldable pub items_read : List Item → List Fields → Result (List Item) StockFault
+items_read earlier [] = ended earlier
+items_read earlier (row ∷ rest) = items_after (λ items. items_read items rest) earlier (item_of earlier (columns_of row))
 
 -- the catalogue of some records
 abbrev pub catalogue_of : List Fields → Result (List Item) StockFault
 catalogue_of [] = Err (record { row = 0; cause = cause.Empty })
 catalogue_of (row ∷ rest) =
-    if is_header (columns_of row) then items_of [] rest else Err (record { row = 1; cause = cause.Header })
+    if is_header (columns_of row) then items_read [] rest else Err (record { row = 1; cause = cause.Header })
 
 -- the catalogue of some bytes, or the first cause that it is refused for
 abbrev pub stock_of : List ℕ → Result (List Item) StockFault
 stock_of bytes = catalogue_of (records default_config (strip_bom bytes))
 
 -- an answer gives what the bytes mean, or tells that memory ran out
-abbrev pub Gives : Result (List Item) StockError → Result (List Item) StockFault → Type 0
-Gives (Ok items) meaning = meaning ≡ Ok items
-Gives (Err (Refused fault)) meaning = meaning ≡ Err fault
-Gives (Err Memory) meaning = ⊤
+abbrev pub GivesCatalogue : Result (List Item) StockError → Result (List Item) StockFault → Type 0
+GivesCatalogue (Ok items) meaning = meaning ≡ Ok items
+GivesCatalogue (Err (Refused fault)) meaning = meaning ≡ Err fault
+GivesCatalogue (Err Memory) meaning = ⊤

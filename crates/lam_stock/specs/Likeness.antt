@@ -30,12 +30,12 @@ same_kind Pair Ply = false
 same_kind Pair Pair = true
 
 -- the numbers of a lamina
-abbrev pub numbers_of : Lamina → List ℤ
-numbers_of l = l.e1 ∷ l.e2 ∷ l.n12 ∷ l.g12 ∷ l.xt ∷ l.xc ∷ l.yt ∷ l.yc ∷ l.s ∷ l.f12 ∷ l.t ∷ []
+abbrev pub lamina_numbers : Lamina → List ℤ
+lamina_numbers l = l.e1 ∷ l.e2 ∷ l.n12 ∷ l.g12 ∷ l.xt ∷ l.xc ∷ l.yt ∷ l.yc ∷ l.s ∷ l.f12 ∷ l.t ∷ []
 
 -- two laminae are the same
 abbrev pub same_lamina : Lamina → Lamina → Bool
-same_lamina a b = pointwise int_eq (numbers_of a) (numbers_of b)
+same_lamina a b = pointwise int_eq (lamina_numbers a) (lamina_numbers b)
 
 -- two directions are the same point of the unit circle
 abbrev pub same_point : CirclePoint → CirclePoint → Bool

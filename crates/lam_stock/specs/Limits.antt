@@ -1,23 +1,24 @@
 -- The limits on the numbers of an item.
-use Rattle.std.specs.Prelude.{ℤ, pos, negsuc, ◌*ℤ◌, ◌≤ℤ◌}
-use Rattle.lam_stock.specs.Moduli.{stiffness}
+use Rattle.std.specs.Prelude.{ℤ, pos, ◌*ℤ◌, ◌≤ℤ◌}
+use Rattle.lam_stock.specs.LimitNumbers.{least_modulus, greatest_modulus, least_poisson, greatest_poisson, least_shear_modulus, greatest_shear_modulus, least_strength, greatest_strength, least_interaction, greatest_interaction, least_thickness, greatest_thickness, least_cost as lowest_cost, greatest_cost as highest_cost, greatest_ratio, greatest_cross, greatest_slack}
+use Rattle.lam_stock.specs.Moduli.{stiffness_cap}
 use Rattle.lam_stock.specs.declared.item.Lamina.{Lamina}
 
--- the moduli in MPa and the Poisson number in thousandths are in range
+-- the moduli in MPa and the Poisson's ratio in thousandths are in range
 pub record ModuliInRange (l : Lamina) : Type 0 where
-  pub least_e1 : pos 1000 ≤ℤ l.e1
-  pub greatest_e1 : l.e1 ≤ℤ pos 400000
-  pub least_e2 : pos 1000 ≤ℤ l.e2
-  pub greatest_e2 : l.e2 ≤ℤ pos 400000
-  pub least_n12 : pos 0 ≤ℤ l.n12
-  pub greatest_n12 : l.n12 ≤ℤ pos 999
-  pub least_g12 : pos 500 ≤ℤ l.g12
-  pub greatest_g12 : l.g12 ≤ℤ pos 200000
+  pub least_e1 : least_modulus ≤ℤ l.e1
+  pub greatest_e1 : l.e1 ≤ℤ greatest_modulus
+  pub least_e2 : least_modulus ≤ℤ l.e2
+  pub greatest_e2 : l.e2 ≤ℤ greatest_modulus
+  pub least_n12 : least_poisson ≤ℤ l.n12
+  pub greatest_n12 : l.n12 ≤ℤ greatest_poisson
+  pub least_g12 : least_shear_modulus ≤ℤ l.g12
+  pub greatest_g12 : l.g12 ≤ℤ greatest_shear_modulus
 
--- a strength is from 1,000 to 5,000,000 kPa
+-- a strength in kPa is in range
 pub record IsStrength (x : ℤ) : Type 0 where
-  pub least : pos 1000 ≤ℤ x
-  pub greatest : x ≤ℤ pos 5000000
+  pub least : least_strength ≤ℤ x
+  pub greatest : x ≤ℤ greatest_strength
 
 -- the strengths are in range
 pub record StrengthsInRange (l : Lamina) : Type 0 where
@@ -29,40 +30,46 @@ pub record StrengthsInRange (l : Lamina) : Type 0 where
 
 -- the interaction term, the thickness in µm and the cost are in range
 pub record RestInRange (l : Lamina) (cost : ℤ) : Type 0 where
-  pub least_f12 : negsuc 999999999999 ≤ℤ l.f12
-  pub greatest_f12 : l.f12 ≤ℤ pos 1000000000000
-  pub least_t : pos 50 ≤ℤ l.t
-  pub greatest_t : l.t ≤ℤ pos 20000
-  pub least_cost : pos 0 ≤ℤ cost
-  pub greatest_cost : cost ≤ℤ pos 1000000000
+  pub least_f12 : least_interaction ≤ℤ l.f12
+  pub greatest_f12 : l.f12 ≤ℤ greatest_interaction
+  pub least_t : least_thickness ≤ℤ l.t
+  pub greatest_t : l.t ≤ℤ greatest_thickness
+  pub least_cost : lowest_cost ≤ℤ cost
+  pub greatest_cost : cost ≤ℤ highest_cost
 
 -- each number is in range
-pub record InRange (l : Lamina) (cost : ℤ) : Type 0 where
+pub record NumbersInRange (l : Lamina) (cost : ℤ) : Type 0 where
   pub moduli : ModuliInRange l
   pub strengths : StrengthsInRange l
   pub rest : RestInRange l cost
 
--- the Poisson number is not too great for the moduli: 2 n12² E2 is at most E1, with n12 as a fraction
+-- the Poisson's ratio is not too great for the moduli: 2 n12² E2 is at most E1, with n12 as a fraction
 pub record KeepsPoisson (l : Lamina) : Type 0 where
   pub kept : (pos 2 *ℤ (l.n12 *ℤ l.n12) *ℤ l.e2) ≤ℤ (pos 1000000 *ℤ l.e1)
 
 -- two strengths are within 1 to 16 either way
-pub record IsNear (a b : ℤ) : Type 0 where
-  pub first : a ≤ℤ (pos 16 *ℤ b)
-  pub second : b ≤ℤ (pos 16 *ℤ a)
+pub record AreWithinSixteen (a b : ℤ) : Type 0 where
+  pub first : a ≤ℤ (greatest_ratio *ℤ b)
+  pub second : b ≤ℤ (greatest_ratio *ℤ a)
 
 -- the tensile and the compressive strength along each axis are near each other
 pub record KeepsRatio (l : Lamina) : Type 0 where
-  pub along : IsNear l.xt l.xc
-  pub across : IsNear l.yt l.yc
+  pub along : AreWithinSixteen l.xt l.xc
+  pub across : AreWithinSixteen l.yt l.yc
 
 -- the interaction term is not too great for the strengths
 pub record KeepsCross (l : Lamina) : Type 0 where
-  pub kept : (pos 4 *ℤ (l.f12 *ℤ l.f12) *ℤ ((l.xt *ℤ l.xc) *ℤ (l.yt *ℤ l.yc))) ≤ℤ pos 3000000000000000000000000000000000000
+  pub kept : (pos 4 *ℤ (l.f12 *ℤ l.f12) *ℤ ((l.xt *ℤ l.xc) *ℤ (l.yt *ℤ l.yc))) ≤ℤ greatest_cross
+
+-- the limits on the strengths and the interaction term alone
+pub record KeepsStrengths (l : Lamina) : Type 0 where
+  pub range : StrengthsInRange l
+  pub ratio : KeepsRatio l
+  pub cross : KeepsCross l
 
 -- a strength is not too small for the moduli: 1000 times the greater of 2(E1 + E2) and 2 G12 is at most 16384 times it
 pub record HasSlack (l : Lamina) (strength : ℤ) : Type 0 where
-  pub kept : (pos 1000 *ℤ stiffness l) ≤ℤ (pos 16384 *ℤ strength)
+  pub kept : (pos 1000 *ℤ stiffness_cap l) ≤ℤ (greatest_slack *ℤ strength)
 
 -- no strength is too small for the moduli
 pub record KeepsSlack (l : Lamina) : Type 0 where
@@ -74,7 +81,7 @@ pub record KeepsSlack (l : Lamina) : Type 0 where
 
 -- a lamina and its cost keep every limit
 pub record KeepsLimits (l : Lamina) (cost : ℤ) : Type 0 where
-  pub range : InRange l cost
+  pub range : NumbersInRange l cost
   pub poisson : KeepsPoisson l
   pub ratio : KeepsRatio l
   pub cross : KeepsCross l

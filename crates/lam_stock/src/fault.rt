@@ -23,7 +23,7 @@ pub enum StockCause {
     Number,
     /// A number is outside its limits.
     Range,
-    /// The Poisson number is too great for the moduli.
+    /// Poisson's ratio is too great for the moduli.
     Poisson,
     /// Two strengths along one axis differ by more than 16 times.
     Ratio,
@@ -37,7 +37,8 @@ pub enum StockCause {
     Half,
     /// There is no item.
     NoItem,
-    /// The stiffest item is too stiff for the softest one.
+    /// The least power of two that covers every stiffness cap is more than 512 times the least
+    /// stiffness floor.
     Spread,
 }
 

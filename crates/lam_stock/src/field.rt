@@ -1,13 +1,14 @@
 // What a field of a record reads as.
 
-ghost use Rattle.std.specs.Prelude.{◌≡◌, ◌==◌, ◌^◌, ◌<◌, ◌≤◌, length, IsTrue, IfSome};
+ghost use Rattle.std.specs.Prelude.{◌≡◌, ◌==◌, ◌^◌, ◌<◌, ◌≤◌, length, unsigned_abs};
+ghost use Rattle.std.specs.Prelude.{IsTrue, IfSome};
 ghost use Rattle.std.specs.List.{list_all};
 ghost use Rattle.lam_stock.specs.Field as spec;
 
 use crate::item::Kind;
 
 /// The field with no blank at either end.
-pub fn without_blanks(field: &[u8]) -> &[u8]
+pub(crate) fn without_blanks(field: &[u8]) -> &[u8]
     ensures { result.now ≡ spec.without_blanks field.now }
 {
     without_end_blanks(without_start_blanks(field))
@@ -49,21 +50,21 @@ fn is_blank(byte: u8) -> bool
 }
 
 /// Tells whether a byte is a letter `a` to `z`.
-pub fn is_letter(byte: u8) -> bool
+pub(crate) fn is_letter(byte: u8) -> bool
     ensures { result ≡ spec.is_letter byte }
 {
     byte >= b'a' && byte <= b'z'
 }
 
 /// Tells whether a byte is a digit.
-pub fn is_digit(byte: u8) -> bool
+pub(crate) fn is_digit(byte: u8) -> bool
     ensures { result ≡ spec.is_digit byte }
 {
     byte >= b'0' && byte <= b'9'
 }
 
 /// Reads a field as a kind.
-pub fn kind(field: &[u8]) -> Option<Kind>
+pub(crate) fn kind(field: &[u8]) -> Option<Kind>
     ensures { result ≡ spec.kind_of field.now }
 {
     if field == b"ply".as_slice() {
@@ -75,9 +76,11 @@ pub fn kind(field: &[u8]) -> Option<Kind>
     }
 }
 
-/// Reads a field as a number: an optional `-`, then `0` or at most 15 digits that do not begin with 0, and no `-0`.
+/// Reads a word as a number: an optional `-`, then `0` or at most 15 digits that do not begin
+/// with 0, and no `-0`. A number has one such word.
 pub fn number(field: &[u8]) -> Option<i64>
-    ensures { result ≡ spec.number_of field.now }
+    ensures value { result ≡ spec.number_of field.now }
+    ensures small { IfSome result (λ n. unsigned_abs n < 10 ^ 15) }
 {
     match field {
         [] => None,
@@ -92,8 +95,8 @@ pub fn number(field: &[u8]) -> Option<i64>
     }
 }
 
-// reads digits as a whole number
-fn whole(digits: &[u8]) -> Option<u64>
+/// Reads a word as a whole number: `0`, or at most 15 digits that do not begin with 0.
+pub fn whole(digits: &[u8]) -> Option<u64>
     ensures value { result ≡ spec.whole_of digits.now }
     ensures small { IfSome result (λ n. n < 10 ^ 15) }
 {

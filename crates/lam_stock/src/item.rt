@@ -23,7 +23,7 @@ pub struct Lamina {
     pub e1: i64,
     /// Young's modulus along axis 2, in MPa.
     pub e2: i64,
-    /// The major Poisson number, in thousandths.
+    /// The major Poisson's ratio, in thousandths.
     pub n12: i64,
     /// The shear modulus, in MPa.
     pub g12: i64,

@@ -1,16 +1,18 @@
 // The limits on the numbers of an item.
 
-ghost use Rattle.std.specs.Prelude.{◌≡◌, ◌+◌, ◌*◌, ◌^◌, ◌<◌, ◌≤◌, ◌↔◌, IsTrue, OnOk, pos, ◌*ℤ◌, ◌≤ℤ◌, unsigned_abs};
-ghost use Rattle.lam_stock.specs.Tests.{limits_of};
-ghost use Rattle.lam_stock.specs.Limits.{InRange, ModuliInRange, StrengthsInRange, RestInRange, IsStrength, KeepsPoisson, KeepsRatio, IsNear, KeepsCross, KeepsSlack, HasSlack, KeepsLimits};
+ghost use Rattle.std.specs.Prelude.{◌≡◌, ◌<◌, IsTrue, OnOk, pos, ◌*ℤ◌};
+ghost use Rattle.lam_stock.specs.Tests as test;
+ghost use Rattle.lam_stock.specs.Limits.{KeepsLimits, NumbersInRange, ModuliInRange};
+ghost use Rattle.lam_stock.specs.Limits.{StrengthsInRange, IsStrength};
 
 use crate::fault::StockCause;
 use crate::item::Lamina;
-use crate::moduli::{size, stiffness};
+use crate::limit_numbers::*;
+use crate::moduli::{size, stiffness_cap};
 
 /// Answers the first of the limits that a lamina and its cost break, if there is one.
 pub fn check(lamina: &Lamina, cost: &i64) -> Result<(), StockCause>
-    ensures first { result ≡ limits_of lamina.now cost.now }
+    ensures first { result ≡ test.limits_of lamina.now cost.now }
     ensures kept { OnOk result (KeepsLimits lamina.now cost.now) }
 {
     if !in_range(lamina, cost) {
@@ -33,7 +35,8 @@ pub fn check(lamina: &Lamina, cost: &i64) -> Result<(), StockCause>
 
 // tells whether each number is in range
 fn in_range(lamina: &Lamina, cost: &i64) -> bool
-    ensures { IsTrue result ↔ InRange lamina.now cost.now }
+    ensures tells { result ≡ test.in_range lamina.now cost.now }
+    ensures range { IsTrue result → NumbersInRange lamina.now cost.now }
 {
     if !moduli_in_range(lamina) || !strengths_in_range(lamina) {
         return false;
@@ -41,59 +44,62 @@ fn in_range(lamina: &Lamina, cost: &i64) -> bool
     rest_in_range(lamina, cost)
 }
 
-// tells whether the moduli and the Poisson number are in range
+// tells whether the moduli and Poisson's ratio are in range
 fn moduli_in_range(lamina: &Lamina) -> bool
-    ensures { IsTrue result ↔ ModuliInRange lamina.now }
+    ensures { result ≡ test.moduli_in_range lamina.now }
 {
-    if lamina.e1 < 1_000 || lamina.e1 > 400_000 {
-        return false;
-    }
-    if lamina.e2 < 1_000 || lamina.e2 > 400_000 {
-        return false;
-    }
-    if lamina.n12 < 0 || lamina.n12 > 999 {
-        return false;
-    }
-    lamina.g12 >= 500 && lamina.g12 <= 200_000
+    is_between(LEAST_MODULUS, GREATEST_MODULUS, lamina.e1)
+        && is_between(LEAST_MODULUS, GREATEST_MODULUS, lamina.e2)
+        && is_between(LEAST_POISSON, GREATEST_POISSON, lamina.n12)
+        && is_between(LEAST_SHEAR_MODULUS, GREATEST_SHEAR_MODULUS, lamina.g12)
 }
 
 // tells whether the strengths are in range
 fn strengths_in_range(lamina: &Lamina) -> bool
-    ensures { IsTrue result ↔ StrengthsInRange lamina.now }
+    ensures { result ≡ test.strengths_in_range lamina.now }
 {
-    if !is_strength(&lamina.xt) || !is_strength(&lamina.xc) {
+    if !is_strength(lamina.xt) {
         return false;
     }
-    if !is_strength(&lamina.yt) || !is_strength(&lamina.yc) {
+    if !is_strength(lamina.xc) {
         return false;
     }
-    is_strength(&lamina.s)
+    if !is_strength(lamina.yt) {
+        return false;
+    }
+    if !is_strength(lamina.yc) {
+        return false;
+    }
+    is_strength(lamina.s)
 }
 
 // tells whether a number is a strength
-fn is_strength(x: &i64) -> bool
-    ensures { IsTrue result ↔ IsStrength x.now }
+fn is_strength(x: i64) -> bool
+    ensures { result ≡ test.is_strength x }
 {
-    *x >= 1_000 && *x <= 5_000_000
+    is_between(LEAST_STRENGTH, GREATEST_STRENGTH, x)
 }
 
 // tells whether the interaction term, the thickness and the cost are in range
 fn rest_in_range(lamina: &Lamina, cost: &i64) -> bool
-    ensures { IsTrue result ↔ RestInRange lamina.now cost.now }
+    ensures { result ≡ test.rest_in_range lamina.now cost.now }
 {
-    if lamina.f12 < -1_000_000_000_000 || lamina.f12 > 1_000_000_000_000 {
-        return false;
-    }
-    if lamina.t < 50 || lamina.t > 20_000 {
-        return false;
-    }
-    *cost >= 0 && *cost <= 1_000_000_000
+    is_between(LEAST_INTERACTION, GREATEST_INTERACTION, lamina.f12)
+        && is_between(LEAST_THICKNESS, GREATEST_THICKNESS, lamina.t)
+        && is_between(LEAST_COST, GREATEST_COST, *cost)
 }
 
-// tells whether the Poisson number is not too great for the moduli
+// tells whether a number is from low to high
+fn is_between(low: i64, high: i64, x: i64) -> bool
+    ensures { result ≡ test.is_between low high x }
+{
+    low <= x && x <= high
+}
+
+// tells whether Poisson's ratio is not too great for the moduli
 fn keeps_poisson(lamina: &Lamina) -> bool
     requires { ModuliInRange lamina.now }
-    ensures { IsTrue result ↔ KeepsPoisson lamina.now }
+    ensures { result ≡ test.keeps_poisson lamina.now }
 {
     let e1 = size(&lamina.e1) as u128;
     let e2 = size(&lamina.e2) as u128;
@@ -104,36 +110,36 @@ fn keeps_poisson(lamina: &Lamina) -> bool
 // tells whether the strengths along each axis are near each other
 fn keeps_ratio(lamina: &Lamina) -> bool
     requires { StrengthsInRange lamina.now }
-    ensures { IsTrue result ↔ KeepsRatio lamina.now }
+    ensures { result ≡ test.keeps_ratio lamina.now }
 {
-    if !near(&lamina.xt, &lamina.xc) {
-        return false;
-    }
-    near(&lamina.yt, &lamina.yc)
+    is_near(lamina.xt, lamina.xc) && is_near(lamina.yt, lamina.yc)
 }
 
 // tells whether two strengths are within 1 to 16 either way
-fn near(a: &i64, b: &i64) -> bool
-    requires first { IsStrength a.now }
-    requires second { IsStrength b.now }
-    ensures { IsTrue result ↔ IsNear a.now b.now }
+fn is_near(a: i64, b: i64) -> bool
+    requires first { IsStrength a }
+    requires second { IsStrength b }
+    ensures { result ≡ test.is_near a b }
 {
-    if *a > 16 * *b || *b > 16 * *a {
-        return false;
-    }
-    true
+    a <= GREATEST_RATIO * b && b <= GREATEST_RATIO * a
 }
 
 // tells whether no strength is too small for the moduli
 fn keeps_slack(lamina: &Lamina) -> bool
     requires moduli { ModuliInRange lamina.now }
     requires strengths { StrengthsInRange lamina.now }
-    ensures { IsTrue result ↔ KeepsSlack lamina.now }
+    ensures { result ≡ test.keeps_slack lamina.now }
 {
-    if !has_slack(lamina, &lamina.xt) || !has_slack(lamina, &lamina.xc) {
+    if !has_slack(lamina, &lamina.xt) {
         return false;
     }
-    if !has_slack(lamina, &lamina.yt) || !has_slack(lamina, &lamina.yc) {
+    if !has_slack(lamina, &lamina.xc) {
+        return false;
+    }
+    if !has_slack(lamina, &lamina.yt) {
+        return false;
+    }
+    if !has_slack(lamina, &lamina.yc) {
         return false;
     }
     has_slack(lamina, &lamina.s)
@@ -143,26 +149,20 @@ fn keeps_slack(lamina: &Lamina) -> bool
 fn has_slack(lamina: &Lamina, strength: &i64) -> bool
     requires moduli { ModuliInRange lamina.now }
     requires strength { IsStrength strength.now }
-    ensures { IsTrue result ↔ HasSlack lamina.now strength.now }
+    ensures { result ≡ test.has_slack lamina.now strength.now }
 {
-    if 1000 * stiffness(lamina) > 16384 * *strength {
-        return false;
-    }
-    true
+    1000 * stiffness_cap(lamina) <= GREATEST_SLACK * *strength
 }
-
-/// The most that four times the square of the interaction term and the strengths come to.
-const MOST_CROSS: u128 = 3_000_000_000_000_000_000_000_000_000_000_000_000;
 
 // tells whether the interaction term is not too great for the strengths
 fn keeps_cross(lamina: &Lamina) -> bool
     requires { StrengthsInRange lamina.now }
-    ensures { IsTrue result ↔ KeepsCross lamina.now }
+    ensures { result ≡ test.keeps_cross lamina.now }
 {
     let term = square(&lamina.f12);
     let along = product(&lamina.xt, &lamina.xc);
     let across = product(&lamina.yt, &lamina.yc);
-    term <= MOST_CROSS / 4 / along / across
+    term <= GREATEST_CROSS / 4 / along / across
 }
 
 // the square of a number

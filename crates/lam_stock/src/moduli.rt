@@ -1,4 +1,4 @@
-// How stiff and how soft a lamina is.
+// The stiffness bounds of a lamina: its cap and its floor.
 
 ghost use Rattle.std.specs.Prelude.{◌≡◌, ◌^◌, ◌<◌, ◌≤ℤ◌, pos, ◌*ℤ◌, ◌+ℤ◌, int_div};
 ghost use Rattle.lam_stock.specs.Limits.{ModuliInRange};
@@ -7,9 +7,9 @@ ghost use Rattle.lam_stock.specs.Moduli as spec;
 use crate::item::Lamina;
 
 /// The greatest modulus that the scale has to cover: the greater of 2(E1 + E2) and 2 G12.
-pub fn stiffness(lamina: &Lamina) -> i64
+pub fn stiffness_cap(lamina: &Lamina) -> i64
     requires { ModuliInRange lamina.now }
-    ensures value { result ≡ spec.stiffness lamina.now }
+    ensures value { result ≡ spec.stiffness_cap lamina.now }
     ensures least { pos 4000 ≤ℤ result }
     ensures greatest { result ≤ℤ pos 1600000 }
 {
@@ -18,11 +18,11 @@ pub fn stiffness(lamina: &Lamina) -> i64
     if shear < sum { sum } else { shear }
 }
 
-/// The least modulus that the scale has to keep apart from 0: the lesser of the whole part of E1 E2 / (E1 + E2)
-/// and of 2 G12.
-pub fn softness(lamina: &Lamina) -> i64
+/// The least modulus that the scale has to keep apart from 0: the lesser of the whole part of
+/// E1 E2 / (E1 + E2) and of 2 G12.
+pub fn stiffness_floor(lamina: &Lamina) -> i64
     requires { ModuliInRange lamina.now }
-    ensures value { result ≡ spec.softness lamina.now }
+    ensures value { result ≡ spec.stiffness_floor lamina.now }
     ensures least { pos 500 ≤ℤ result }
     ensures greatest { result ≤ℤ pos 400000 }
 {
@@ -50,7 +50,7 @@ fn doubled_shear(lamina: &Lamina) -> i64
 // the whole part of E1 E2 / (E1 + E2)
 fn harmonic(lamina: &Lamina) -> i64
     requires { ModuliInRange lamina.now }
-    ensures value { result ≡ int_div (lamina.now.e1 *ℤ lamina.now.e2) (lamina.now.e1 +ℤ lamina.now.e2) }
+    ensures value { result ≡ (let l = lamina.now in int_div (l.e1 *ℤ l.e2) (l.e1 +ℤ l.e2)) }
     ensures least { pos 500 ≤ℤ result }
     ensures greatest { result ≤ℤ pos 400000 }
 {

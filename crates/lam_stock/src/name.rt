@@ -10,7 +10,8 @@ use std::marker::Model;
 /// The greatest length of a name.
 const LONGEST: usize = 16;
 
-/// The name of a catalogue item: 1 to 16 letters `a` to `z`, digits, `_` and `-`, the first a letter.
+/// The name of a catalogue item: 1 to 16 letters `a` to `z`, digits, `_` and `-`, the first a
+/// letter.
 #[derive(Drop)]
 pub struct Name {
     bytes: [u8; 16],

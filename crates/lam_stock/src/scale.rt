@@ -2,10 +2,12 @@
 
 ghost use Rattle.std.specs.Prelude.{◌≡◌, ◌≤◌, ◌≤ℤ◌, pos, All};
 ghost use Rattle.lam_stock.specs.Scale as spec;
+ghost use Rattle.lam_stock.specs.LimitNumbers.{greatest_modulus};
 ghost use Rattle.lam_stock.specs.Limits.{ModuliInRange};
 
 use crate::item::Item;
-use crate::moduli::{size, softness, stiffness};
+use crate::limit_numbers::GREATEST_MODULUS;
+use crate::moduli::{size, stiffness_cap, stiffness_floor};
 
 /// The scale that the stiffnesses of a catalogue are counted on.
 #[derive(Clone, Copy, PartialEq, Eq, Debug)]
@@ -21,44 +23,38 @@ pub fn scale_of(items: &[Item]) -> Scale
     requires { All (λ i. ModuliInRange i.lamina) items.now }
     ensures value { result ≡ spec.scale_of items.now }
     ensures least { pos 500 ≤ℤ result.floor }
-    ensures greatest { result.floor ≤ℤ pos 400000 }
+    ensures greatest { result.floor ≤ℤ greatest_modulus }
 {
     Scale {
-        q0: power_above(size(&stiffest(items))) as i64,
-        floor: softest(items),
+        q0: power_above(size(&greatest_cap(items))) as i64,
+        floor: least_floor(items),
     }
 }
 
-// the greatest of the moduli that the scale has to cover
-fn stiffest(items: &[Item]) -> i64
+// the greatest stiffness cap of some items
+fn greatest_cap(items: &[Item]) -> i64
     requires { All (λ i. ModuliInRange i.lamina) items.now }
-    ensures value { result ≡ spec.stiffest items.now }
+    ensures value { result ≡ spec.greatest_cap items.now }
     ensures least { pos 0 ≤ℤ result }
     ensures greatest { result ≤ℤ pos 1600000 }
 {
-    let mut most = 0;
+    let mut greatest: i64 = 0;
     for item in items {
-        let stiffness = stiffness(&item.lamina);
-        if most < stiffness {
-            most = stiffness;
-        }
+        greatest = greatest.max(stiffness_cap(&item.lamina));
     }
-    most
+    greatest
 }
 
-// the least of the moduli that the scale has to keep apart from 0
-fn softest(items: &[Item]) -> i64
+// the least stiffness floor of some items
+fn least_floor(items: &[Item]) -> i64
     requires { All (λ i. ModuliInRange i.lamina) items.now }
-    ensures value { result ≡ spec.softest items.now }
+    ensures value { result ≡ spec.least_floor items.now }
     ensures least { pos 500 ≤ℤ result }
-    ensures greatest { result ≤ℤ pos 400000 }
+    ensures greatest { result ≤ℤ greatest_modulus }
 {
-    let mut least = 400_000;
+    let mut least = GREATEST_MODULUS;
     for item in items {
-        let softness = softness(&item.lamina);
-        if softness < least {
-            least = softness;
-        }
+        least = least.min(stiffness_floor(&item.lamina));
     }
     least
 }

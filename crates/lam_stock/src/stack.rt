@@ -1,14 +1,12 @@
 // Lists of at most 64 items.
 
-ghost use Rattle.std.specs.Prelude.{◌≡◌, ◌≤◌, ◌<◌, ◌↔◌, ◌++◌, ◌∷◌, [], length, IsNone, IfSome, IfNone};
+ghost use Rattle.std.specs.Prelude.{◌≡◌, ◌≤◌, ◌<◌, ◌↔◌, ◌++◌, ◌∷◌, [], length};
+ghost use Rattle.std.specs.Prelude.{IsNone, IfSome, IfNone};
 
 use crate::item::ItemNo;
 use smallvec::SmallVec;
 use std::alloc::Global;
 use std::marker::Model;
-
-/// The most items of a list.
-const ROOM: usize = 64;
 
 /// A list of at most 64 items, which takes no memory.
 #[derive(Drop)]

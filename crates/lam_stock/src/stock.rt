@@ -1,11 +1,15 @@
 // The catalogue: its items, and its scale.
 
-ghost use Rattle.std.specs.Prelude.{◌≡◌, ℕ, ◌<◌, ◌≤◌, ◌↔◌, ◌≤ℤ◌, ◌*ℤ◌, ◌^◌, pos, length, All, IfSome, IfNone, IsSome, IsTrue, IsFalse, option_map};
+ghost use Rattle.std.specs.Prelude.{◌≡◌, ℕ, ◌<◌, ◌≤◌, ◌↔◌, ◌≤ℤ◌, ◌*ℤ◌, ◌^◌, pos, length, slice_get};
+ghost use Rattle.std.specs.Prelude.{All, Some, IfSome, IfNone, IsSome, IsTrue, IsFalse, option_map};
+ghost use Rattle.lam_stock.specs.LimitNumbers.{greatest_modulus, greatest_spread, most_items};
 ghost use Rattle.lam_stock.specs.Likeness as spec;
 ghost use Rattle.lam_stock.specs.Scale.{IsScaleOf, scale_of as scale_spec};
-ghost use Rattle.lam_stock.specs.Stock.{WithinLimits};
+ghost use Rattle.lam_stock.specs.Stock.{HaveNames, IsStock, WithinLimits};
+ghost use Rattle.lam_stock.specs.declared.item.Item.{Item};
 
 use crate::item::{Item, ItemNo, Kind, Lamina};
+use crate::limit_numbers::GREATEST_SPREAD;
 use crate::scale::{Scale, scale_of};
 use lam_direction::Direction;
 use std::marker::Model;
@@ -31,16 +35,18 @@ impl Model for Stock {
 }
 
 impl Stock {
-    /// The catalogue of these items, if the stiffest is not too stiff for the softest.
+    /// The catalogue of these items, if q0 is at most 512 times the least stiffness floor.
     pub(crate) fn of_items(items: Vec<Item>) -> Option<Stock>
         requires some { 1 ≤ length items.items }
-        requires few { length items.items ≤ 64 }
+        requires few { length items.items ≤ most_items }
         requires limits { All WithinLimits items.items }
+        requires names { HaveNames items.items }
         ensures items { IfSome result (λ stock. stock ≡ items.items) }
-        ensures spread { IsSome result ↔ ((scale_spec items.items).q0 ≤ℤ (pos 512 *ℤ (scale_spec items.items).floor)) }
+        ensures spread { IsSome result ↔ (let scale = scale_spec items.items in
+            scale.q0 ≤ℤ (greatest_spread *ℤ scale.floor)) }
     {
         let scale = scale_of(&items);
-        if scale.q0 > 512 * scale.floor {
+        if scale.q0 > GREATEST_SPREAD * scale.floor {
             return None;
         }
         Some(Stock { items, scale })
@@ -50,8 +56,9 @@ impl Stock {
     pub fn items(&self) -> &[Item]
         ensures items { result.now ≡ self.now }
         ensures some { 1 ≤ length self.now }
-        ensures few { length self.now ≤ 64 }
+        ensures few { length self.now ≤ most_items }
         ensures limits { All WithinLimits self.now }
+        ensures names { HaveNames self.now }
     {
         self.items.as_slice()
     }
@@ -59,21 +66,24 @@ impl Stock {
     /// The scale that the stiffnesses are counted on.
     pub fn scale(&self) -> Scale
         ensures value { result ≡ scale_spec self.now }
+        ensures stock { IsStock self.now result }
         ensures scale { IsScaleOf self.now result }
         ensures power { (k : ℕ) × (k ≤ 21) × (result.q0 ≡ pos (2 ^ k)) }
-        ensures spread { result.q0 ≤ℤ (pos 512 *ℤ result.floor) }
+        ensures spread { result.q0 ≤ℤ (greatest_spread *ℤ result.floor) }
         ensures least { pos 4000 ≤ℤ result.q0 }
         ensures greatest { result.q0 ≤ℤ pos 2097152 }
         ensures floor { pos 500 ≤ℤ result.floor }
-        ensures ceiling { result.floor ≤ℤ pos 400000 }
+        ensures ceiling { result.floor ≤ℤ greatest_modulus }
     {
         self.scale
     }
 
-    /// The item of this name.
+    /// The item of this name. There is at most one.
     pub fn find(&self, name: &[u8]) -> Option<ItemNo>
         ensures place { option_map (λ no. no.0) result ≡ spec.place_of name.now self.now }
         ensures within { IfSome result (λ no. no.0 < length self.now) }
+        ensures own { (k : ℕ) (i : Item) → slice_get self.now k ≡ Some i → name.now ≡ i.name
+            → option_map (λ no. no.0) result ≡ Some k }
     {
         let place = place_of(&self.items, name)?;
         Some(ItemNo(place as u8))
@@ -88,8 +98,8 @@ impl Stock {
         is_alike(&self.items[a.0 as usize], &self.items[b.0 as usize])
     }
 
-    /// Tells whether two items are plies of the same lamina, and the direction of the first is the mirror image
-    /// of that of the second.
+    /// Tells whether two items are plies of the same lamina, and the direction of the first is the
+    /// mirror image of that of the second.
     pub fn mirrors(&self, a: ItemNo, b: ItemNo) -> bool
         requires first { a.0 < length self.now }
         requires second { b.0 < length self.now }
@@ -101,9 +111,12 @@ impl Stock {
     /// The first item that mirrors this one.
     pub fn mirror_of(&self, a: ItemNo) -> Option<ItemNo>
         requires { a.0 < length self.now }
-        ensures found { IfSome result (λ no. (no.0 < length self.now) × IsTrue (spec.are_mirrors self.now no.0 a.0)) }
-        ensures first { IfSome result (λ no. (b : ℕ) → b < no.0 → IsFalse (spec.are_mirrors self.now b a.0)) }
-        ensures none { IfNone result ((b : ℕ) → b < length self.now → IsFalse (spec.are_mirrors self.now b a.0)) }
+        ensures found { IfSome result (λ no.
+            (no.0 < length self.now) × IsTrue (spec.are_mirrors self.now no.0 a.0)) }
+        ensures first { IfSome result (λ no.
+            (b : ℕ) → b < no.0 → IsFalse (spec.are_mirrors self.now b a.0)) }
+        ensures none { IfNone result
+            ((b : ℕ) → b < length self.now → IsFalse (spec.are_mirrors self.now b a.0)) }
     {
         for b in 0..self.items.len() {
             let no = ItemNo(b as u8);
@@ -143,8 +156,8 @@ fn is_alike(a: &Item, b: &Item) -> bool
     same_point(&a.dir, &b.dir)
 }
 
-// tells whether two items are plies of the same lamina, and the direction of the first is the mirror image of that
-// of the second
+// tells whether two items are plies of the same lamina, and the direction of the first is the
+// mirror image of that of the second
 fn is_mirror(a: &Item, b: &Item) -> bool
     ensures { result ≡ spec.is_mirror a.now b.now }
 {
@@ -181,12 +194,12 @@ fn same_kind(a: Kind, b: Kind) -> bool
 fn same_lamina(a: &Lamina, b: &Lamina) -> bool
     ensures { result ≡ spec.same_lamina a.now b.now }
 {
-    numbers_of(a) == numbers_of(b)
+    lamina_numbers(a) == lamina_numbers(b)
 }
 
 // the numbers of a lamina
-fn numbers_of(l: &Lamina) -> [i64; 11]
-    ensures { result ≡ spec.numbers_of l.now }
+fn lamina_numbers(l: &Lamina) -> [i64; 11]
+    ensures { result ≡ spec.lamina_numbers l.now }
 {
     [
         l.e1, l.e2, l.n12, l.g12, l.xt, l.xc, l.yt, l.yc, l.s, l.f12, l.t,

@@ -1,104 +1,108 @@
--- What a wall of enclosures stands for, from the sums over its plies.
-use Rattle.std.proofs.Common.{◌≡◌, sym, ◌∙◌, ap, subst, subst₂, ℕ, ◌*◌, ◌^◌, ◌≤◌, ℤ, pos, ◌≤ℤ◌, ◌<ℤ◌, List, length, All, arith}
+-- What the assembled matrices of a wall hold, how narrow they are, and what they stand for.
+use Rattle.std.proofs.Common.{◌≡◌, refl, sym, subst, subst₂, ℕ, ◌*◌, ◌≤◌, ℤ, pos, ◌≤ℤ◌, List, length, arith}
 use Rattle.std.specs.Prelude.{unsigned_abs}
-use Rattle.std.proofs.Math.Nat.{mul-le-mul_left, mul-le-mul_right, le_of_mul-le-mul_right}
 use Rattle.std.proofs.lemmas.Int.{ints}
 use Rattle.lam_fraction.specs.Fraction.{ℚ}
-use Rattle.lam_number.specs.Ends.{width, reach}
+use Rattle.lam_fraction.specs.numbers.Numbers.{Numbers, Lawful}
+use Rattle.lam_fraction.proofs.numbers.Consequences.{known_narrow}
+use Rattle.lam_fraction.proofs.numbers.Steps.{square_room}
 use Rattle.lam_stock.specs.declared.item.Item.{Item}
 use Rattle.lam_stock.specs.declared.item.ItemNo.{ItemNo}
 use Rattle.lam_stock.specs.declared.scale.Scale.{Scale}
-use Rattle.lam_stock.specs.Scale.{scale_of, IsScaleOf}
-use Rattle.lam_stock.specs.Stock.{WithinLimits}
+use Rattle.lam_stock.specs.Stock.{IsKnown, IsStock}
 use Rattle.lam_lamina.specs.declared.stiffness.Sym3.{Sym3}
 use Rattle.lam_lamina.specs.Held.{HoldsMatrix, NarrowMatrix}
-use Rattle.lam_lamina.specs.Stiffness.{Symmetric}
-use Rattle.lam_lamina.proofs.Identities.{stiffness-gives}
-use Rattle.lam_lamina.proofs.Catalogue.{catalogue-covered}
-use Rattle.lam_lamina.proofs.Steps.{IsFine}
 use Rattle.lam_job.specs.Schedule.{items_of}
 use Rattle.lam_job.specs.Wall.{wall_thickness}
 use Rattle.lam_wall.specs.declared.wall.Wall.{Wall}
-use Rattle.lam_wall.specs.Assembled.{HoldsWall, NarrowWall, SmallMatrix, SmallWall, StandsFor, stiffness_of}
-use Rattle.lam_wall.specs.Matrices.{Matrices, AreStiffnesses, matrices}
-use Rattle.lam_wall.specs.MatrixLaw.{AreMatrices}
-use Rattle.lam_wall.specs.Parts.{IsPart, AreParts, AreSums, IsListed, sum_width}
-use Rattle.lam_wall.proofs.Gathered.{part-small}
-use Rattle.lam_wall.proofs.Listed.{IsKnown}
-use Rattle.lam_wall.proofs.Stiffnesses.{are_stiffnesses}
-use Rattle.lam_wall.proofs.WallSums.{sums_by_matrices}
+use Rattle.lam_wall.specs.Assembled.{ArePlies, HoldsWall, NarrowWall, SmallMatrix, SmallWall, StandsFor}
+use Rattle.lam_wall.specs.Matrices.{matrices, stiffness_of}
+use Rattle.lam_wall.specs.inside.Formulas as by
+use Rattle.lam_wall.specs.inside.Parts.{IsListed}
+use Rattle.lam_wall.proofs.CatalogueWalls.{plies-exact, plies-covered, plies-few, plies-limits, plies-thick, plies-thin}
+use Rattle.lam_wall.proofs.LaidWall.{KnownWall, known-wall}
+use Rattle.lam_wall.proofs.SumsKnown.{KnownEntries, sum_of}
 
--- ---- the exact matrices
-pub stiffness-is : (q0 : ℤ) → pos 0 <ℤ q0 → AreStiffnesses q0 (stiffness_of q0)
-stiffness-is q0 above = are_stiffnesses q0 above (stiffness_of q0) (λ i e. (stiffness-gives q0 i.kind i.lamina i.dir).gives e)
+-- ---- what the calls of a catalogue and of a stack promise together
+pub are-plies : {scale : Scale} {stock : List Item} {numbers numbers' : List ItemNo} → IsStock stock scale → 1 ≤ length numbers → length numbers' ≤ 64 → numbers' ≡ numbers
+    → IsKnown stock numbers → ArePlies scale stock numbers
+are-plies catalogue some few e known = record { catalogue = catalogue; some = some; few = subst (λ ns. length ns ≤ 64) e few; known = known }
 
--- ---- what is held
-holds-matrix : {A : Type 0} {s p : ℕ} {low high : A → ℤ} {h t w : ℕ} {r : Sym3 A} {m : Symmetric} → AreParts s p low high h t w r m → HoldsMatrix s low high r m
-holds-matrix k = record { xx = k.xx.held; xy = k.xy.held; yy = k.yy.held; xs = k.xs.held; ys = k.ys.held; ss = k.ss.held }
-
-pub holds-wall : {A : Type 0} {s p : ℕ} {low high : A → ℤ} {h t n : ℕ} {w : Wall A} {m : Matrices} → AreSums s p low high h t n w m → HoldsWall s low high w m
-holds-wall k = record { a = holds-matrix k.a; b = holds-matrix k.b; d = holds-matrix k.d }
-
--- ---- widths and ends, once all plies are laid
-module _ (h n : ℕ) (thick : 1 ≤ h) (few : n ≤ 64) where
-  narrow_enough : sum_width h h n ≤ 512 * h
-  narrow_enough = let plies : n * h ≤ 64 * h = mul-le-mul_right h few in omega (arith, plies)
-
-  narrow : {s p : ℕ} {l g : ℤ} {x : ℚ} → IsPart s p l g h h (sum_width h h n) x → width l g ≤ 512 * p
-  narrow {p = p} k = let slops : p * sum_width h h n ≤ p * (512 * h) = mul-le-mul_left p narrow_enough in le_of_mul-le-mul_right {k = h} (omega (arith, k.narrow, slops)) thick
-
-  narrow-matrix : {A : Type 0} {s : ℕ} {slop : ℤ} {low high : A → ℤ} {r : Sym3 A} {m : Symmetric} → AreParts s (unsigned_abs slop) low high h h (sum_width h h n) r m
-      → NarrowMatrix 512 slop low high r
-  narrow-matrix k = record { xx = narrow k.xx; xy = narrow k.xy; yy = narrow k.yy; xs = narrow k.xs; ys = narrow k.ys; ss = narrow k.ss }
-
-  pub narrow-wall : {A : Type 0} {s : ℕ} {slop : ℤ} {low high : A → ℤ} {w : Wall A} {m : Matrices} → AreSums s (unsigned_abs slop) low high h h n w m → NarrowWall 512 slop low high w
-  narrow-wall k = record { a = narrow-matrix k.a; b = narrow-matrix k.b; d = narrow-matrix k.d }
-
-  module _ {s p : ℕ} (f : IsFine s p) where
-    small : {l g : ℤ} {x : ℚ} → IsPart s p l g h h (sum_width h h n) x → reach l g ≤ 2 * 2 ^ s
-    small k = part-small s p f thick (omega arith) (omega (arith, narrow_enough)) k
-
-    small-matrix : {A : Type 0} {low high : A → ℤ} {r : Sym3 A} {m : Symmetric} → AreParts s p low high h h (sum_width h h n) r m → SmallMatrix s low high r
-    small-matrix k = record { xx = small k.xx; xy = small k.xy; yy = small k.yy; xs = small k.xs; ys = small k.ys; ss = small k.ss }
-
-    pub small-wall : {A : Type 0} {low high : A → ℤ} {w : Wall A} {m : Matrices} → AreSums s p low high h h n w m → SmallWall s low high w
-    small-wall k = record { a = small-matrix k.a; b = small-matrix k.b; d = small-matrix k.d }
-
--- ---- a wall of listed items
-module _ (stock : List Item) (numbers : List ItemNo) (scale : Scale) (h : ℤ) {stock' : List Item} {numbers' : List ItemNo} (same_stock : stock' ≡ stock) (same_numbers : numbers' ≡ numbers) where
-  pub listed-items : All WithinLimits stock → IsScaleOf stock scale → All (IsKnown stock) numbers → 1 ≤ length numbers → length numbers' ≤ 64
-      → h ≡ wall_thickness (items_of stock numbers) → pos (50 * length numbers) ≤ℤ h → h ≤ℤ pos (20000 * length numbers) → IsListed scale.q0 h stock' numbers'
-  listed-items limits is_scale known some few thickness least greatest =
-      let fewer : length numbers ≤ 64 = subst (λ ns. length ns ≤ 64) same_numbers few in
-      subst₂ (IsListed scale.q0 h) (sym same_stock) (sym same_numbers) (record {
-        limits = limits;
-        covered = catalogue-covered stock scale limits is_scale;
-        known = known;
-        few = fewer;
-        least = omega (arith, ints, least, some);
-        greatest = omega (arith, ints, greatest, fewer);
-        thickness = thickness;
-      })
-
-  module _ (l : IsListed scale.q0 h stock' numbers') {A : Type 0} {s p : ℕ} {low high : A → ℤ} {w : Wall A}
-      (sums : AreSums s p low high (unsigned_abs h) (unsigned_abs h) (length numbers') w (matrices (stiffness_of scale.q0) (items_of stock' numbers'))) where
-    wall_above : pos 0 <ℤ wall_thickness (items_of stock' numbers')
-    wall_above = subst (λ x. pos 0 <ℤ x) l.thickness (omega (arith, ints, l.least))
-
-    -- the matrices over the scale
-    are_matrices : pos 4000 ≤ℤ scale.q0 → AreMatrices scale.q0 (items_of stock' numbers') (matrices (stiffness_of scale.q0) (items_of stock' numbers'))
-    are_matrices least =
-        let above : pos 0 <ℤ scale.q0 = omega (arith, ints, least) in
-        sums_by_matrices scale.q0 (stiffness_of scale.q0) (items_of stock' numbers') (stiffness-is scale.q0 above) wall_above
-
-    pub stands-for : IsFine s p → scale ≡ scale_of stock → pos 4000 ≤ℤ scale.q0 → w.h ≡ h → StandsFor s low high w stock numbers
-    stands-for f is_scale least eh = subst₂ (StandsFor s low high w) same_stock same_numbers (record {
-      thickness = eh ∙ l.thickness;
-      matrices = (
-        matrices (stiffness_of scale.q0) (items_of stock' numbers'),
-        subst (λ (x : Scale). AreMatrices x.q0 (items_of stock' numbers') (matrices (stiffness_of scale.q0) (items_of stock' numbers')))
-            (is_scale ∙ ap scale_of (sym same_stock)) (are_matrices least),
-        holds-wall sums,
-      );
-      reach = small-wall (unsigned_abs h) (length numbers') (omega (arith, ints, l.least)) l.few f sums;
+pub listed-items : {scale : Scale} {stock stock' : List Item} {numbers numbers' : List ItemNo} {h : ℤ} → ArePlies scale stock numbers → stock' ≡ stock → numbers' ≡ numbers
+    → h ≡ wall_thickness (items_of stock numbers) → IsListed scale h stock' numbers'
+listed-items {scale} {h = h} plies e f thickness =
+    let above = plies-thick plies in
+    let thin = plies-thin plies in
+    subst₂ (IsListed scale h) (sym e) (sym f) (record {
+      plies = plies;
+      least = omega (arith, ints, thickness, above);
+      greatest = omega (arith, ints, thickness, thin);
+      thickness = thickness;
     })
+
+module _ {A : Type 0} {n : Numbers A} (laws : Lawful n) {d : ℕ} (some : 1 ≤ d) {r : Sym3 A} {m : Sym3 ℚ} (k : KnownEntries n d (sum_of d d 64) r m) where
+  held-sums : HoldsMatrix n r m
+  held-sums = record { xx = k.xx.held; xy = k.xy.held; yy = k.yy.held; xs = k.xs.held; ys = k.ys.held; ss = k.ss.held }
+
+  narrow-sums : NarrowMatrix 512 n r
+  narrow-sums =
+      let few : (sum_of d d 64).wide ≤ 512 * d = omega arith in
+      record {
+        xx = known_narrow laws 512 some k.xx few;
+        xy = known_narrow laws 512 some k.xy few;
+        yy = known_narrow laws 512 some k.yy few;
+        xs = known_narrow laws 512 some k.xs few;
+        ys = known_narrow laws 512 some k.ys few;
+        ss = known_narrow laws 512 some k.ss few;
+      }
+
+  small-sums : SmallMatrix n r
+  small-sums = record {
+    xx = square_room laws d some k.xx (omega arith);
+    xy = square_room laws d some k.xy (omega arith);
+    yy = square_room laws d some k.yy (omega arith);
+    xs = square_room laws d some k.xs (omega arith);
+    ys = square_room laws d some k.ys (omega arith);
+    ss = square_room laws d some k.ss (omega arith);
+  }
+
+-- ---- 1 to 64 plies of a catalogue of this scale
+module _ {A : Type 0} {n : Numbers A} (laws : Lawful n) {scale : Scale} {stock : List Item} {numbers : List ItemNo} (plies : ArePlies scale stock numbers) where
+  abbrev items : List Item
+  items = items_of stock numbers
+
+  abbrev wall : Wall A
+  wall = by.assembled n.calc scale.q0 items
+
+  thick : pos 1 ≤ℤ wall_thickness items
+  thick = let t = plies-thick plies in omega (arith, ints, t)
+
+  some : 1 ≤ unsigned_abs (wall_thickness items)
+  some = omega (arith, ints, thick)
+
+  known : KnownWall n (unsigned_abs (wall_thickness items)) wall (matrices (stiffness_of scale.q0) items)
+  known = known-wall laws scale.q0 (wall_thickness items) (record {
+    least = thick;
+    greatest = plies-thin plies;
+    limits = plies-limits plies;
+    covered = plies-covered plies;
+    within = omega (arith, ints);
+    few = plies-few plies;
+  })
+
+  pub holds-wall : HoldsWall n wall (matrices (stiffness_of scale.q0) items)
+  holds-wall = record { a = held-sums laws some known.a; b = held-sums laws some known.b; d = held-sums laws some known.d }
+
+  pub narrow-wall : NarrowWall 512 n wall
+  narrow-wall = record { a = narrow-sums laws some known.a; b = narrow-sums laws some known.b; d = narrow-sums laws some known.d }
+
+  small-wall : SmallWall n wall
+  small-wall = record { a = small-sums laws some known.a; b = small-sums laws some known.b; d = small-sums laws some known.d }
+
+  pub stands-for : StandsFor n wall scale stock numbers
+  stands-for = record {
+    plies = plies;
+    thickness = refl;
+    matrices = (matrices (stiffness_of scale.q0) items, plies-exact plies, holds-wall);
+    reach = small-wall;
+  }

@@ -1,16 +1,16 @@
 -- Equilibrium of a wall as six linear equations.
 use Rattle.std.proofs.Common.{◌≡◌, ◌↔◌, refl, sym, ◌∙◌, ap, ℤ, pos, ◌*ℤ◌, ◌<ℤ◌, arith}
 use Rattle.std.proofs.lemmas.Int.{ints}
-use Rattle.lam_fraction.specs.WholeNumbers.{product_positive}
+use Rattle.lam_fraction.specs.inside.WholeNumbers.{product_positive}
 use Rattle.lam_fraction.specs.Fraction.{ℚ, whole, fraction, ◌*ℚ◌, ◌<ℚ◌, ◌-ℚ◌, ◌/ℚ◌}
 use Rattle.lam_fraction.proofs.Expression.{int, ◌⊗◌}
 use Rattle.lam_fraction.proofs.Solver.{◌≐◌}
 use Rattle.lam_fraction.proofs.FractionRing.{whole-product}
 use Rattle.lam_fraction.proofs.Rationals.{solve, same_without_factor}
-use Rattle.lam_fraction.proofs.FractionBounds.{fraction-times}
+use Rattle.lam_fraction.proofs.FractionBounds.{fraction-times, whole_positive}
 use Rattle.lam_job.specs.Wall.{wall_thickness}
 use Rattle.lam_wall.specs.MatrixLaw.{EquilibriumByMatrices}
-use Rattle.lam_wall.proofs.Wholes.{positive}
+use Rattle.lam_wall.proofs.OffAxes.{same_off_axis}
 
 -- a sum that is k times x is n where x is n over k
 scaled : {sum x goal n : ℚ} (k : ℚ) → whole (pos 0) <ℚ k → k *ℚ goal ≡ n → sum ≡ k *ℚ x → (sum ≡ n) ↔ (x ≡ goal)
@@ -32,20 +32,16 @@ moment_goal m l above =
 pub equilibrium_by_matrices : EquilibriumByMatrices
 equilibrium_by_matrices q0 wall m load f scale_above above are = (
   (λ s. record {
-    nx = (force load.nx (are f).nx).0 s.nx;
-    ny = (force load.ny (are f).ny).0 s.ny;
-    nxy = (force load.nxy (are f).nxy).0 s.nxy;
-    mx = (moment load.mx (are f).mx).0 s.mx;
-    my = (moment load.my (are f).my).0 s.my;
-    mxy = (moment load.mxy (are f).mxy).0 s.mxy;
+    forces = same_off_axis ((force load.nx (ap (λ t. t.x) (are f).forces)).0 s.nx) ((force load.ny (ap (λ t. t.y) (are f).forces)).0 s.ny) ((force load.nxy (ap (λ t. t.s) (are f).forces)).0 s.nxy);
+    moments = same_off_axis ((moment load.mx (ap (λ t. t.x) (are f).moments)).0 s.mx) ((moment load.my (ap (λ t. t.y) (are f).moments)).0 s.my) ((moment load.mxy (ap (λ t. t.s) (are f).moments)).0 s.mxy);
   }),
   (λ s. record {
-    nx = (force load.nx (are f).nx).1 s.nx;
-    ny = (force load.ny (are f).ny).1 s.ny;
-    nxy = (force load.nxy (are f).nxy).1 s.nxy;
-    mx = (moment load.mx (are f).mx).1 s.mx;
-    my = (moment load.my (are f).my).1 s.my;
-    mxy = (moment load.mxy (are f).mxy).1 s.mxy;
+    nx = (force load.nx (ap (λ t. t.x) (are f).forces)).1 (ap (λ t. t.x) s.forces);
+    ny = (force load.ny (ap (λ t. t.y) (are f).forces)).1 (ap (λ t. t.y) s.forces);
+    nxy = (force load.nxy (ap (λ t. t.s) (are f).forces)).1 (ap (λ t. t.s) s.forces);
+    mx = (moment load.mx (ap (λ t. t.x) (are f).moments)).1 (ap (λ t. t.x) s.moments);
+    my = (moment load.my (ap (λ t. t.y) (are f).moments)).1 (ap (λ t. t.y) s.moments);
+    mxy = (moment load.mxy (ap (λ t. t.s) (are f).moments)).1 (ap (λ t. t.s) s.moments);
   }),
 )
   where
@@ -63,9 +59,9 @@ equilibrium_by_matrices q0 wall m load f scale_above above are = (
 
     force : {sum x : ℚ} (n : ℤ) → sum ≡ whole (pos 4 *ℤ (wall_thickness wall *ℤ q0)) *ℚ x
         → (sum ≡ whole n) ↔ (x ≡ fraction n (pos 4 *ℤ (wall_thickness wall *ℤ q0)))
-    force n e = scaled (whole (pos 4 *ℤ (wall_thickness wall *ℤ q0))) (positive four) (force_goal n (pos 4 *ℤ (wall_thickness wall *ℤ q0)) four) e
+    force n e = scaled (whole (pos 4 *ℤ (wall_thickness wall *ℤ q0))) (whole_positive four) (force_goal n (pos 4 *ℤ (wall_thickness wall *ℤ q0)) four) e
 
     moment : {sum x : ℚ} (n : ℤ) → sum ≡ whole (pos 6 *ℤ (wall_thickness wall *ℤ (wall_thickness wall *ℤ q0))) *ℚ x
         → (sum ≡ whole (pos 12000 *ℤ n)) ↔ (x ≡ fraction (pos 2000 *ℤ n) (wall_thickness wall *ℤ (wall_thickness wall *ℤ q0)))
-    moment n e = scaled (whole (pos 6 *ℤ (wall_thickness wall *ℤ (wall_thickness wall *ℤ q0)))) (positive six)
+    moment n e = scaled (whole (pos 6 *ℤ (wall_thickness wall *ℤ (wall_thickness wall *ℤ q0)))) (whole_positive six)
         (moment_goal n (wall_thickness wall *ℤ (wall_thickness wall *ℤ q0)) bend) e

@@ -5,10 +5,11 @@ use Rattle.lam_fraction.proofs.Expression.{int, ◌⊕◌, ◌⊖◌, ◌⊗◌}
 use Rattle.lam_fraction.proofs.Solver.{◌≐◌}
 use Rattle.lam_fraction.proofs.Rationals.{solve, from₁, above, square, number, positive_number, weaken, at_most, antisym, transitive, zero_square, inverse_positive, at_most_over, ◌+ₙ◌, ◌*ₙ◌}
 use Rattle.lam_fraction.proofs.FractionBounds.{times-inverse}
-use Rattle.lam_stock.specs.PlyLaw.{InWall}
-use Rattle.lam_lamina.specs.Work.{squares}
+use Rattle.lam_stock.specs.PlyLaw.{OffAxis}
+use Rattle.lam_stock.specs.Energy.{strain_squares}
 use Rattle.lam_wall.specs.Energy.{mean_squares}
-use Rattle.lam_wall.proofs.Wholes.{twice_half}
+use Rattle.lam_fraction.proofs.WholeFractions.{twice_half}
+use Rattle.lam_wall.proofs.OffAxes.{none, same_off_axis}
 
 abbrev half : ℚ
 half = fraction (pos 1) (pos 2)
@@ -32,20 +33,20 @@ third_above = weaken (inverse_positive (positive_number 2))
 
 -- ---- the squares of one strain
 
-pub squares_above : (e : InWall) → whole (pos 0) ≤ℚ squares e
+pub squares_above : (e : OffAxis) → whole (pos 0) ≤ℚ strain_squares e
 squares_above e = square e.x +ₙ square e.y +ₙ half_above *ₙ square e.s
 
-pub x_at_most_squares : (e : InWall) → e.x *ℚ e.x ≤ℚ squares e
+pub x_at_most_squares : (e : OffAxis) → e.x *ℚ e.x ≤ℚ strain_squares e
 unfolding ◌-ℚ◌ ◌/ℚ◌
 x_at_most_squares e = at_most (square e.y +ₙ half_above *ₙ square e.s)
     (solve 4 (λ x y s h. (x ⊗ x ⊕ y ⊗ y ⊕ h ⊗ (s ⊗ s)) ⊖ x ⊗ x ≐ y ⊗ y ⊕ h ⊗ (s ⊗ s)) refl e.x e.y e.s half)
 
-pub y_at_most_squares : (e : InWall) → e.y *ℚ e.y ≤ℚ squares e
+pub y_at_most_squares : (e : OffAxis) → e.y *ℚ e.y ≤ℚ strain_squares e
 unfolding ◌-ℚ◌ ◌/ℚ◌
 y_at_most_squares e = at_most (square e.x +ₙ half_above *ₙ square e.s)
     (solve 4 (λ x y s h. (x ⊗ x ⊕ y ⊗ y ⊕ h ⊗ (s ⊗ s)) ⊖ y ⊗ y ≐ x ⊗ x ⊕ h ⊗ (s ⊗ s)) refl e.x e.y e.s half)
 
-pub s_at_most_squares : (e : InWall) → e.s *ℚ e.s ≤ℚ whole (pos 2) *ℚ squares e
+pub s_at_most_squares : (e : OffAxis) → e.s *ℚ e.s ≤ℚ whole (pos 2) *ℚ strain_squares e
 unfolding ◌-ℚ◌ ◌/ℚ◌
 s_at_most_squares e = at_most (number 2 *ₙ (square e.x +ₙ square e.y))
     (from₁ (e.s *ℚ e.s) two_halves
@@ -53,19 +54,19 @@ s_at_most_squares e = at_most (number 2 *ₙ (square e.x +ₙ square e.y))
 
 -- ---- through the wall
 
-pub mean_squares_above : (e k : InWall) → whole (pos 0) ≤ℚ mean_squares e k
+pub mean_squares_above : (e k : OffAxis) → whole (pos 0) ≤ℚ mean_squares e k
 unfolding ◌-ℚ◌ ◌/ℚ◌
 mean_squares_above e k = squares_above e +ₙ squares_above k *ₙ third_above
 
-pub strain_at_most : (e k : InWall) → squares e ≤ℚ mean_squares e k
+pub strain_at_most : (e k : OffAxis) → strain_squares e ≤ℚ mean_squares e k
 unfolding ◌-ℚ◌ ◌/ℚ◌
-strain_at_most e k = at_most (squares_above k *ₙ third_above) (solve 3 (λ n m i. (n ⊕ m ⊗ i) ⊖ n ≐ m ⊗ i) refl (squares e) (squares k) third)
+strain_at_most e k = at_most (squares_above k *ₙ third_above) (solve 3 (λ n m i. (n ⊕ m ⊗ i) ⊖ n ≐ m ⊗ i) refl (strain_squares e) (strain_squares k) third)
 
-pub bending_at_most : (e k : InWall) → squares k ≤ℚ whole (pos 3) *ℚ mean_squares e k
+pub bending_at_most : (e k : OffAxis) → strain_squares k ≤ℚ whole (pos 3) *ℚ mean_squares e k
 unfolding ◌-ℚ◌ ◌/ℚ◌
 bending_at_most e k = at_most (number 3 *ₙ squares_above e)
-    (from₁ (squares k) three_thirds
-    (solve 3 (λ n m i. int (pos 3) ⊗ (n ⊕ m ⊗ i) ⊖ m ≐ int (pos 3) ⊗ n ⊕ m ⊗ (int (pos 3) ⊗ i ⊖ int (pos 1))) refl (squares e) (squares k) third))
+    (from₁ (strain_squares k) three_thirds
+    (solve 3 (λ n m i. int (pos 3) ⊗ (n ⊕ m ⊗ i) ⊖ m ≐ int (pos 3) ⊗ n ⊕ m ⊗ (int (pos 3) ⊗ i ⊖ int (pos 1))) refl (strain_squares e) (strain_squares k) third))
 
 -- ---- what is zero
 
@@ -76,18 +77,13 @@ times_zero : (k : ℚ) {n : ℚ} → whole (pos 0) ≤ℚ k → n ≤ℚ whole (
 unfolding ◌-ℚ◌ ◌/ℚ◌
 times_zero k {n} h l = at_most (h *ₙ above l) (solve 2 (λ k n. int (pos 0) ⊖ k ⊗ n ≐ k ⊗ (int (pos 0) ⊖ n)) refl k n)
 
-abbrev pub none : InWall
-none = record { x = whole (pos 0); y = whole (pos 0); s = whole (pos 0) }
-
-pub no_squares : (e : InWall) → squares e ≤ℚ whole (pos 0) → e ≡ none
+pub no_squares : (e : OffAxis) → strain_squares e ≤ℚ whole (pos 0) → e ≡ none
 no_squares e l =
-    let x = not_above_zero (x_at_most_squares e) l in
-    let y = not_above_zero (y_at_most_squares e) l in
-    let s = not_above_zero (s_at_most_squares e) (times_zero (whole (pos 2)) (number 2) l) in
-    λ i. record { x = x i; y = y i; s = s i }
+    same_off_axis (not_above_zero (x_at_most_squares e) l) (not_above_zero (y_at_most_squares e) l)
+    (not_above_zero (s_at_most_squares e) (times_zero (whole (pos 2)) (number 2) l))
 
-pub no_strain : (e k : InWall) → mean_squares e k ≤ℚ whole (pos 0) → e ≡ none
+pub no_strain : (e k : OffAxis) → mean_squares e k ≤ℚ whole (pos 0) → e ≡ none
 no_strain e k l = no_squares e (transitive (strain_at_most e k) l)
 
-pub no_bending : (e k : InWall) → mean_squares e k ≤ℚ whole (pos 0) → k ≡ none
+pub no_bending : (e k : OffAxis) → mean_squares e k ≤ℚ whole (pos 0) → k ≡ none
 no_bending e k l = no_squares k (transitive (bending_at_most e k) (times_zero (whole (pos 3)) (number 3) l))

@@ -5,12 +5,13 @@ use Rattle.lam_fraction.proofs.Expression.{int, ◌⊕◌, ◌⊖◌, ◌⊗◌,
 use Rattle.lam_fraction.proofs.Solver.{◌≐◌}
 use Rattle.lam_fraction.proofs.FractionRing.{whole-product}
 use Rattle.lam_fraction.proofs.Rationals.{solve, from₁, from₂}
-use Rattle.lam_stock.specs.PlyLaw.{InWall}
+use Rattle.lam_stock.specs.PlyLaw.{OffAxis}
 use Rattle.lam_job.specs.Wall.{Placed}
-use Rattle.lam_job.specs.Field.{Field, strain_at}
+use Rattle.lam_job.specs.LaminateStrain.{LaminateStrain, strain_at}
 use Rattle.lam_job.specs.Equilibrium.{item_stress, ply_force, ply_moment}
 use Rattle.lam_wall.specs.Matrices.{extension_share, coupling_share, bending_share, bending_strain}
-use Rattle.lam_wall.proofs.Wholes.{twice_half, whole-product₃, whole-product₄, whole-twice_and_one, whole-one_and_twice}
+use Rattle.lam_fraction.proofs.WholeFractions.{twice_half, whole-product₃, whole-product₄}
+use Rattle.lam_wall.proofs.Wholes.{whole-twice_and_one, whole-one_and_twice}
 use Rattle.lam_wall.proofs.Shares.{thickness_is, coupling_is, bending_is}
 use Rattle.lam_wall.proofs.LinearSums.{row, combined}
 
@@ -51,32 +52,32 @@ moment_by_shares a b h q m c d u v w x y z k l n e g =
     a b h q m c d u v w x y z k l n)
 
 -- A component of the stress of the ply is q0 times the linear form of a row u, v, w of its stiffness.
-module _ (q0 h : ℤ) (above : pos 0 <ℤ h) (f : Field) (p : Placed) (of : InWall → ℚ) (u v w : ℚ)
-    (by_row : (e : InWall) → of (item_stress p.item e) ≡ whole q0 *ℚ row u v w e.x e.y e.s) where
-  abbrev k : InWall
+module _ (q0 h : ℤ) (above : pos 0 <ℤ h) (f : LaminateStrain) (p : Placed) (of : OffAxis → ℚ) (u v w : ℚ)
+    (by_row : (e : OffAxis) → of (item_stress p.item e) ≡ whole q0 *ℚ row u v w e.x e.y e.s) where
+  abbrev k : OffAxis
   k = bending_strain h f.curvature
 
   pub ply_force_is : ply_force of f p
       ≡ combined (whole (pos 4 *ℤ (h *ℤ q0)))
       (extension_share h p *ℚ u) (extension_share h p *ℚ v) (extension_share h p *ℚ w)
       (coupling_share h p *ℚ u) (coupling_share h p *ℚ v) (coupling_share h p *ℚ w)
-      f.strain.x f.strain.y f.strain.s k.x k.y k.s
+      f.mid_plane.x f.mid_plane.y f.mid_plane.s k.x k.y k.s
   ply_force_is =
       ap₂ ◌*ℚ◌ (whole-product (pos 2) p.item.lamina.t ∙ ap (λ t. whole (pos 2) *ℚ t) (thickness_is h above p))
       (ap₂ ◌+ℚ◌ (by_row (strain_at f p.inner)) (by_row (strain_at f p.outer)))
       ∙ force_by_shares (fraction p.inner (pos 2)) (fraction p.outer (pos 2)) (fraction h (pos 2)) (whole q0) (extension_share h p) (coupling_share h p)
-      u v w f.strain.x f.strain.y f.strain.s f.curvature.x f.curvature.y f.curvature.s (coupling_is h above p)
+      u v w f.mid_plane.x f.mid_plane.y f.mid_plane.s f.curvature.x f.curvature.y f.curvature.s (coupling_is h above p)
       ∙ ap (λ n. combined n
       (extension_share h p *ℚ u) (extension_share h p *ℚ v) (extension_share h p *ℚ w)
       (coupling_share h p *ℚ u) (coupling_share h p *ℚ v) (coupling_share h p *ℚ w)
-      f.strain.x f.strain.y f.strain.s k.x k.y k.s)
+      f.mid_plane.x f.mid_plane.y f.mid_plane.s k.x k.y k.s)
       (ap (λ t. whole (pos 4) *ℚ (t *ℚ whole q0)) (sym (twice_half h)) ∙ sym (whole-product₃ (pos 4) h q0))
 
   pub ply_moment_is : ply_moment of f p
       ≡ combined (whole (pos 6 *ℤ (h *ℤ (h *ℤ q0))))
       (coupling_share h p *ℚ u) (coupling_share h p *ℚ v) (coupling_share h p *ℚ w)
       (bending_share h p *ℚ u) (bending_share h p *ℚ v) (bending_share h p *ℚ w)
-      f.strain.x f.strain.y f.strain.s k.x k.y k.s
+      f.mid_plane.x f.mid_plane.y f.mid_plane.s k.x k.y k.s
   ply_moment_is =
       ap₂ ◌*ℚ◌ (thickness_is h above p)
       (ap₂ ◌+ℚ◌
@@ -85,9 +86,9 @@ module _ (q0 h : ℤ) (above : pos 0 <ℤ h) (f : Field) (p : Placed) (of : InWa
       (ap₂ ◌*ℚ◌ (by_row (strain_at f p.outer))
       (whole-one_and_twice p.inner p.outer ∙ ap₂ (λ a b. a +ℚ whole (pos 2) *ℚ b) (twice_half p.inner) (twice_half p.outer))))
       ∙ moment_by_shares (fraction p.inner (pos 2)) (fraction p.outer (pos 2)) (fraction h (pos 2)) (whole q0) (extension_share h p) (coupling_share h p) (bending_share h p)
-      u v w f.strain.x f.strain.y f.strain.s f.curvature.x f.curvature.y f.curvature.s (coupling_is h above p) (bending_is h above p)
+      u v w f.mid_plane.x f.mid_plane.y f.mid_plane.s f.curvature.x f.curvature.y f.curvature.s (coupling_is h above p) (bending_is h above p)
       ∙ ap (λ n. combined n
       (coupling_share h p *ℚ u) (coupling_share h p *ℚ v) (coupling_share h p *ℚ w)
       (bending_share h p *ℚ u) (bending_share h p *ℚ v) (bending_share h p *ℚ w)
-      f.strain.x f.strain.y f.strain.s k.x k.y k.s)
+      f.mid_plane.x f.mid_plane.y f.mid_plane.s k.x k.y k.s)
       (ap (λ t. whole (pos 6) *ℚ (t *ℚ (t *ℚ whole q0))) (sym (twice_half h)) ∙ sym (whole-product₄ (pos 6) h h q0))

@@ -4,13 +4,14 @@ use Rattle.lam_fraction.specs.Fraction.{ℚ, whole, fraction, ◌+ℚ◌, ◌*�
 use Rattle.lam_fraction.proofs.Expression.{int, ◌⊕◌, ◌⊗◌}
 use Rattle.lam_fraction.proofs.Solver.{◌≐◌}
 use Rattle.lam_fraction.proofs.Rationals.{solve, same_without_factor, positive_number, ◌*ₚ◌}
-use Rattle.lam_fraction.proofs.FractionBounds.{fraction-times}
+use Rattle.lam_fraction.proofs.FractionBounds.{fraction-times, whole_positive}
 use Rattle.lam_job.specs.Wall.{Placed}
 use Rattle.lam_wall.specs.Matrices.{extension_share, coupling_share, bending_share}
-use Rattle.lam_wall.proofs.Wholes.{positive, twice_square, three_cubes, whole-product₃, whole-product₄, whole-times_sum, whole-times_squares, twice_half}
+use Rattle.lam_fraction.proofs.WholeFractions.{whole-product₃, whole-product₄, twice_half}
+use Rattle.lam_wall.proofs.Wholes.{twice_square, three_cubes, whole-times_sum, whole-times_squares}
 
 module _ (h : ℤ) (above : pos 0 <ℤ h) (p : Placed) where
-  -- half the wall's thickness, and half the doubled places of the ply's faces
+  -- half the wall's thickness, and z of the ply's faces in µm
   abbrev half_h : ℚ
   half_h = fraction h (pos 2)
 
@@ -43,7 +44,7 @@ module _ (h : ℤ) (above : pos 0 <ℤ h) (p : Placed) where
 
   pub coupling_is : coupling_share h p *ℚ (whole (pos 2) *ℚ half_h) ≡ extension_share h p *ℚ (half_inner +ℚ half_outer)
   unfolding ◌-ℚ◌ ◌/ℚ◌
-  coupling_is = same_without_factor (whole (pos 2) *ℚ whole h) (positive_number 1 *ₚ positive above)
+  coupling_is = same_without_factor (whole (pos 2) *ℚ whole h) (positive_number 1 *ₚ whole_positive above)
       (ap (λ s. whole (pos 2) *ℚ whole h *ℚ (coupling_share h p *ℚ s)) (sym (twice_half h))
       ∙ solve 2 (λ c h. int (pos 2) ⊗ h ⊗ (c ⊗ h) ≐ c ⊗ (int (pos 2) ⊗ (h ⊗ h))) refl (coupling_share h p) (whole h)
       ∙ coupling_whole
@@ -53,7 +54,7 @@ module _ (h : ℤ) (above : pos 0 <ℤ h) (p : Placed) where
   pub bending_is : bending_share h p *ℚ (whole (pos 3) *ℚ (half_h *ℚ half_h))
       ≡ extension_share h p *ℚ (half_inner *ℚ half_inner +ℚ half_inner *ℚ half_outer +ℚ half_outer *ℚ half_outer)
   unfolding ◌-ℚ◌ ◌/ℚ◌
-  bending_is = same_without_factor (whole (pos 4) *ℚ whole h) (positive_number 3 *ₚ positive above)
+  bending_is = same_without_factor (whole (pos 4) *ℚ whole h) (positive_number 3 *ₚ whole_positive above)
       (solve 3 (λ d h f. int (pos 4) ⊗ h ⊗ (d ⊗ (int (pos 3) ⊗ (f ⊗ f))) ≐ d ⊗ (int (pos 3) ⊗ (h ⊗ ((int (pos 2) ⊗ f) ⊗ (int (pos 2) ⊗ f))))) refl (bending_share h p) (whole h) half_h
       ∙ ap (λ s. bending_share h p *ℚ (whole (pos 3) *ℚ (whole h *ℚ (s *ℚ s)))) (sym (twice_half h))
       ∙ bending_whole

@@ -1,4 +1,4 @@
--- The energy of a wall lies between floor and q0 times its thickness and the mean squares of its strains.
+-- Twice the energy of a wall lies between floor and q0 times its thickness and the mean squares of its strains.
 use Rattle.std.proofs.Common.{◌≡◌, refl, sym, ◌∙◌, ap, subst₂, ℤ, pos, neg_ℤ, ◌+ℤ◌, ◌*ℤ◌, ◌≤ℤ◌, List, [], ◌∷◌}
 use Rattle.std.proofs.lemmas.List.Elements.{recursion_from_All}
 use Rattle.std.specs.List.{AllByRecursion}
@@ -10,28 +10,28 @@ use Rattle.lam_fraction.proofs.FractionSums as Sums
 use Rattle.lam_fraction.proofs.Rationals.{solve, from₁, from₂, without_factor, positive_number}
 use Rattle.lam_fraction.proofs.FractionBounds.{times-inverse}
 use Rattle.lam_stock.specs.declared.item.Item.{Item}
-use Rattle.lam_stock.specs.PlyLaw.{InWall}
+use Rattle.lam_stock.specs.PlyLaw.{OffAxis}
 use Rattle.lam_job.specs.Wall.{Placed, placed_from, placed_plies, wall_thickness}
-use Rattle.lam_job.specs.Field.{Field}
+use Rattle.lam_job.specs.LaminateStrain.{LaminateStrain}
 use Rattle.lam_job.specs.Equilibrium.{ply_force, ply_moment}
 use Rattle.lam_wall.specs.Matrices.{bending_strain}
-use Rattle.lam_lamina.specs.Work.{squares, WorksBetween}
-use Rattle.lam_wall.specs.Energy.{energy, mean_squares, EnergyBetween}
-use Rattle.lam_wall.proofs.Wholes.{twice_half}
+use Rattle.lam_stock.specs.Energy.{strain_squares, LayerEnergyBetween}
+use Rattle.lam_wall.specs.Energy.{twice_wall_energy, mean_squares, EnergyBetween}
+use Rattle.lam_fraction.proofs.WholeFractions.{twice_half}
 use Rattle.lam_wall.proofs.LinearSums.{row, sum-row, sum-combined}
-use Rattle.lam_wall.proofs.Places.{thickness_of, with_places, with_squares, thickness_sum, wall_places_sum, wall_squares_sum}
+use Rattle.lam_wall.proofs.PlaceSums.{thickness_of, with_places, with_squares, thickness_sum, wall_places_sum, wall_squares_sum}
 use Rattle.lam_wall.proofs.PlyEnergy.{twelve_energies, mixed, all_squares, energies_at_least, energies_at_most}
 
 -- ---- the two sums
 
-energy_sum : (f : Field) (wall : List Item) → sum_over (twelve_energies f) (placed_plies wall) ≡ whole (pos 12) *ℚ energy f wall
+energy_sum : (f : LaminateStrain) (wall : List Item) → sum_over (twelve_energies f) (placed_plies wall) ≡ whole (pos 12) *ℚ twice_wall_energy f wall
 unfolding ◌-ℚ◌ ◌/ℚ◌
 energy_sum f wall =
     sum-combined (whole (pos 1)) (ply_force (λ t. t.x) f) (ply_force (λ t. t.y) f) (ply_force (λ t. t.s) f) (ply_moment (λ t. t.x) f) (ply_moment (λ t. t.y) f) (ply_moment (λ t. t.s) f)
-    (whole (pos 3) *ℚ f.strain.x) (whole (pos 3) *ℚ f.strain.y) (whole (pos 3) *ℚ f.strain.s) f.curvature.x f.curvature.y f.curvature.s (placed_plies wall)
-    ∙ parts _ _ _ _ _ _ f.strain f.curvature
+    (whole (pos 3) *ℚ f.mid_plane.x) (whole (pos 3) *ℚ f.mid_plane.y) (whole (pos 3) *ℚ f.mid_plane.s) f.curvature.x f.curvature.y f.curvature.s (placed_plies wall)
+    ∙ parts _ _ _ _ _ _ f.mid_plane f.curvature
   where
-    parts : (a b c l m n : ℚ) (e k : InWall)
+    parts : (a b c l m n : ℚ) (e k : OffAxis)
         → whole (pos 1) *ℚ (row a b c (whole (pos 3) *ℚ e.x) (whole (pos 3) *ℚ e.y) (whole (pos 3) *ℚ e.s) +ℚ row l m n k.x k.y k.s)
         ≡ whole (pos 12) *ℚ (row a b c e.x e.y e.s /ℚ whole (pos 4) +ℚ row l m n k.x k.y k.s /ℚ whole (pos 12))
     parts a b c l m n e k = sym (from₂ (whole (pos 3) *ℚ row a b c e.x e.y e.s) (times-inverse (positive_number 3)) (row l m n k.x k.y k.s) (times-inverse (positive_number 11))
@@ -41,19 +41,19 @@ energy_sum f wall =
         ⊕ int (pos 3) ⊗ (a ⊗ ex ⊕ b ⊗ ey ⊕ c ⊗ es) ⊗ (int (pos 4) ⊗ i ⊖ int (pos 1)) ⊕ (l ⊗ kx ⊕ m ⊗ ky ⊕ n ⊗ ks) ⊗ (int (pos 12) ⊗ j ⊖ int (pos 1))) refl
         a b c l m n e.x e.y e.s k.x k.y k.s (inverse (whole (pos 4))) (inverse (whole (pos 12)))))
 
-squares_sum : (f : Field) (wall : List Item)
-    → sum_over (all_squares f) (placed_plies wall) ≡ whole (pos 12) *ℚ (whole (wall_thickness wall) *ℚ mean_squares f.strain (bending_strain (wall_thickness wall) f.curvature))
+squares_sum : (f : LaminateStrain) (wall : List Item)
+    → sum_over (all_squares f) (placed_plies wall) ≡ whole (pos 12) *ℚ (whole (wall_thickness wall) *ℚ mean_squares f.mid_plane (bending_strain (wall_thickness wall) f.curvature))
 unfolding ◌-ℚ◌ ◌/ℚ◌
 squares_sum f wall =
-    sum-row thickness_of with_places with_squares (whole (pos 12) *ℚ squares f.strain) (whole (pos 6) *ℚ mixed f.strain f.curvature) (squares f.curvature) (placed_plies wall)
+    sum-row thickness_of with_places with_squares (whole (pos 12) *ℚ strain_squares f.mid_plane) (whole (pos 6) *ℚ mixed f.mid_plane f.curvature) (strain_squares f.curvature) (placed_plies wall)
     ∙ (λ i. row (thickness_sum (neg_ℤ (wall_thickness wall)) wall i) (wall_places_sum wall i) (wall_squares_sum wall i)
-    (whole (pos 12) *ℚ squares f.strain) (whole (pos 6) *ℚ mixed f.strain f.curvature) (squares f.curvature))
-    ∙ ap (λ h. row h (whole (pos 0)) (h *ℚ h *ℚ h) (whole (pos 12) *ℚ squares f.strain) (whole (pos 6) *ℚ mixed f.strain f.curvature) (squares f.curvature)) (twice_half (wall_thickness wall))
-    ∙ parts (fraction (wall_thickness wall) (pos 2)) (squares f.strain) (mixed f.strain f.curvature) (fraction (pos 1) (pos 2)) f.curvature
-    ∙ ap (λ h. whole (pos 12) *ℚ (h *ℚ mean_squares f.strain (bending_strain (wall_thickness wall) f.curvature))) (sym (twice_half (wall_thickness wall)))
+    (whole (pos 12) *ℚ strain_squares f.mid_plane) (whole (pos 6) *ℚ mixed f.mid_plane f.curvature) (strain_squares f.curvature))
+    ∙ ap (λ h. row h (whole (pos 0)) (h *ℚ h *ℚ h) (whole (pos 12) *ℚ strain_squares f.mid_plane) (whole (pos 6) *ℚ mixed f.mid_plane f.curvature) (strain_squares f.curvature)) (twice_half (wall_thickness wall))
+    ∙ parts (fraction (wall_thickness wall) (pos 2)) (strain_squares f.mid_plane) (mixed f.mid_plane f.curvature) (fraction (pos 1) (pos 2)) f.curvature
+    ∙ ap (λ h. whole (pos 12) *ℚ (h *ℚ mean_squares f.mid_plane (bending_strain (wall_thickness wall) f.curvature))) (sym (twice_half (wall_thickness wall)))
   where
     -- g is half the thickness
-    parts : (g n m h : ℚ) (k : InWall)
+    parts : (g n m h : ℚ) (k : OffAxis)
         → row (whole (pos 2) *ℚ g) (whole (pos 0)) (whole (pos 2) *ℚ g *ℚ (whole (pos 2) *ℚ g) *ℚ (whole (pos 2) *ℚ g)) (whole (pos 12) *ℚ n) (whole (pos 6) *ℚ m) (k.x *ℚ k.x +ℚ k.y *ℚ k.y +ℚ h *ℚ (k.s *ℚ k.s))
         ≡ whole (pos 12) *ℚ (whole (pos 2) *ℚ g *ℚ (n +ℚ (g *ℚ k.x *ℚ (g *ℚ k.x) +ℚ g *ℚ k.y *ℚ (g *ℚ k.y) +ℚ h *ℚ (g *ℚ k.s *ℚ (g *ℚ k.s))) /ℚ whole (pos 3)))
     parts g n m h k = sym (from₁ (whole (pos 8) *ℚ g *ℚ (g *ℚ k.x *ℚ (g *ℚ k.x) +ℚ g *ℚ k.y *ℚ (g *ℚ k.y) +ℚ h *ℚ (g *ℚ k.s *ℚ (g *ℚ k.s)))) (times-inverse (positive_number 2))
@@ -67,11 +67,11 @@ squares_sum f wall =
 
 -- ---- ply by ply
 
-module _ (f : Field) (floor q0 : ℤ) where
+module _ (f : LaminateStrain) (floor q0 : ℤ) where
   abbrev Bounded : Placed → Type 0
   Bounded p = (whole floor *ℚ all_squares f p ≤ℚ twelve_energies f p) × (twelve_energies f p ≤ℚ whole q0 *ℚ all_squares f p)
 
-  bounded : (z : ℤ) (wall : List Item) → AllByRecursion (λ i. pos 0 ≤ℤ i.lamina.t) wall → AllByRecursion (WorksBetween floor q0) wall
+  bounded : (z : ℤ) (wall : List Item) → AllByRecursion (λ i. pos 0 ≤ℤ i.lamina.t) wall → AllByRecursion (LayerEnergyBetween floor q0) wall
       → AllByRecursion Bounded (placed_from z wall)
   bounded z [] thick between = tt
   bounded z (i ∷ wall) thick between =
@@ -103,7 +103,7 @@ turned f s = solve 2 (λ f s. f ⊗ (int (pos 12) ⊗ s) ≐ int (pos 12) ⊗ (f
 
 pub energy_between : EnergyBetween
 energy_between floor q0 wall f thick between =
-    let h = whole (wall_thickness wall) *ℚ mean_squares f.strain (bending_strain (wall_thickness wall) f.curvature) in
+    let h = whole (wall_thickness wall) *ℚ mean_squares f.mid_plane (bending_strain (wall_thickness wall) f.curvature) in
     let each = bounded f floor q0 (neg_ℤ (wall_thickness wall)) wall (recursion_from_All _ wall thick) (recursion_from_All _ wall between) in (
       without_factor (whole (pos 12)) (positive_number 11)
           (subst₂ ◌≤ℚ◌ (ap (λ s. whole floor *ℚ s) (squares_sum f wall) ∙ turned (whole floor) h) (energy_sum f wall) (lower_sums f floor q0 (placed_plies wall) each)),

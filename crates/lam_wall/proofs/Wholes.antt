@@ -1,19 +1,11 @@
--- Whole numbers and fractions as terms of the solver.
-use Rattle.std.proofs.Common.{◌≡◌, refl, sym, ◌∙◌, ap, ap₂, ℤ, pos, ◌+ℤ◌, ◌*ℤ◌, ◌<ℤ◌, arith}
+-- Whole numbers of a wall, and as fractions.
+use Rattle.std.proofs.Common.{◌≡◌, ◌∙◌, ap, ap₂, ℤ, pos, ◌+ℤ◌, ◌*ℤ◌, ◌<ℤ◌, arith}
 use Rattle.std.proofs.lemmas.Int.{ints}
-use Rattle.lam_fraction.specs.WholeNumbers.{product_positive}
-use Rattle.lam_fraction.specs.Fraction.{whole, fraction, ◌+ℚ◌, ◌*ℚ◌, ◌<ℚ◌, ◌-ℚ◌, ◌/ℚ◌}
-use Rattle.lam_fraction.proofs.Expression.{int, ◌⊗◌}
-use Rattle.lam_fraction.proofs.Solver.{◌≐◌}
-use Rattle.lam_fraction.proofs.FractionPairs.{whole-lt}
+use Rattle.lam_fraction.specs.inside.WholeNumbers.{product_positive}
+use Rattle.lam_fraction.specs.Fraction.{whole, ◌+ℚ◌, ◌*ℚ◌}
 use Rattle.lam_fraction.proofs.FractionRing.{whole-sum, whole-product}
-use Rattle.lam_fraction.proofs.Rationals.{solve}
-use Rattle.lam_fraction.proofs.FractionBounds.{fraction-times}
 
 -- ---- what is above 0
-pub positive : {d : ℤ} → pos 0 <ℤ d → whole (pos 0) <ℚ whole d
-positive {d} h = (whole-lt (pos 0) d).1 h
-
 pub twice_square : (h : ℤ) → pos 0 <ℤ h → pos 0 <ℤ (pos 2 *ℤ (h *ℤ h))
 twice_square h above = product_positive (pos 2) (h *ℤ h) (omega (arith, ints)) (product_positive h h above above)
 
@@ -21,12 +13,6 @@ pub three_cubes : (h : ℤ) → pos 0 <ℤ h → pos 0 <ℤ (pos 3 *ℤ (h *ℤ 
 three_cubes h above = product_positive (pos 3) (h *ℤ (h *ℤ h)) (omega (arith, ints)) (product_positive h (h *ℤ h) above (product_positive h h above above))
 
 -- ---- sums and products
-pub whole-product₃ : (a b c : ℤ) → whole (a *ℤ (b *ℤ c)) ≡ whole a *ℚ (whole b *ℚ whole c)
-whole-product₃ a b c = whole-product a (b *ℤ c) ∙ ap (λ s. whole a *ℚ s) (whole-product b c)
-
-pub whole-product₄ : (a b c d : ℤ) → whole (a *ℤ (b *ℤ (c *ℤ d))) ≡ whole a *ℚ (whole b *ℚ (whole c *ℚ whole d))
-whole-product₄ a b c d = whole-product a (b *ℤ (c *ℤ d)) ∙ ap (λ s. whole a *ℚ s) (whole-product₃ b c d)
-
 pub whole-times_sum : (t a b : ℤ) → whole (t *ℤ (a +ℤ b)) ≡ whole t *ℚ (whole a +ℚ whole b)
 whole-times_sum t a b = whole-product t (a +ℤ b) ∙ ap (λ s. whole t *ℚ s) (whole-sum a b)
 
@@ -45,8 +31,3 @@ whole-twice_and_one a b = whole-sum (pos 2 *ℤ a) b ∙ ap (λ s. s +ℚ whole 
 
 pub whole-one_and_twice : (a b : ℤ) → whole (a +ℤ pos 2 *ℤ b) ≡ whole a +ℚ whole (pos 2) *ℚ whole b
 whole-one_and_twice a b = whole-sum a (pos 2 *ℤ b) ∙ ap (λ s. whole a +ℚ s) (whole-product (pos 2) b)
-
--- a whole number is twice its half
-pub twice_half : (z : ℤ) → whole z ≡ whole (pos 2) *ℚ fraction z (pos 2)
-unfolding ◌-ℚ◌ ◌/ℚ◌
-twice_half z = sym (fraction-times z (pos 2) (omega (arith, ints))) ∙ solve 1 (λ f. f ⊗ int (pos 2) ≐ int (pos 2) ⊗ f) refl (fraction z (pos 2))

@@ -1,8 +1,9 @@
 // The loads that walls are computed for.
 
-ghost use Rattle.std.specs.Prelude.{◌≡◌, ◌↔◌, ◌*ℤ◌, IsTrue};
-ghost use Rattle.lam_job.specs.LoadRange.{IsWithin, LoadInRange};
+ghost use Rattle.std.specs.Prelude.{◌≡◌, ◌↔◌, IsTrue};
+ghost use Rattle.lam_job.specs.LoadRange.{SizeWithin, LoadInRange};
 
+use lam_fraction::machine::wide_product;
 use lam_job::Load;
 use lam_stock::Scale;
 
@@ -19,35 +20,28 @@ pub fn in_range(scale: &Scale, h: i64, load: &Load) -> bool
         my,
         mxy,
     } = *load;
-    let force = product(scale.floor, h);
+    let force = wide_product(scale.floor, h);
     // a bound that is too great for a number is above each moment
-    let moment = i128::from(scale.floor).saturating_mul(product(h, h));
+    let moment = i128::from(scale.floor).saturating_mul(wide_product(h, h));
     are_within(force, nx.into(), ny.into(), nxy.into())
         && are_within(
             moment,
-            product(8000, mx),
-            product(8000, my),
-            product(8000, mxy),
+            wide_product(8000, mx),
+            wide_product(8000, my),
+            wide_product(8000, mxy),
         )
 }
 
 // tells whether the size of each of three numbers is at most a bound
 fn are_within(bound: i128, x: i128, y: i128, xy: i128) -> bool
-    ensures { IsTrue result ↔ IsWithin bound x × IsWithin bound y × IsWithin bound xy }
+    ensures { IsTrue result ↔ SizeWithin bound x × SizeWithin bound y × SizeWithin bound xy }
 {
     is_within(bound, x) && is_within(bound, y) && is_within(bound, xy)
 }
 
 // tells whether the size of a number is at most a bound
 fn is_within(bound: i128, z: i128) -> bool
-    ensures { IsTrue result ↔ IsWithin bound z }
+    ensures { IsTrue result ↔ SizeWithin bound z }
 {
     0 <= bound && z.unsigned_abs() <= bound.unsigned_abs()
-}
-
-// the product of two numbers
-fn product(a: i64, b: i64) -> i128
-    ensures { result ≡ a *ℤ b }
-{
-    i128::from(a) * i128::from(b)
 }

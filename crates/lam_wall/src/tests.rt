@@ -3,7 +3,7 @@
 ghost use Rattle.std.specs.Prelude.{◌≡◌, ℕ, ◌<◌, ◌≤◌, length, All};
 
 use crate::{face, in_range, thickness, wall_plies};
-use lam_job::{Case, CaseKind, Cases, Counts, Job, Load, Panels, RuleSet};
+use lam_job::{Case, CaseKind, Entries, Job, Load, RuleSet};
 use lam_stock::{ItemNo, Stack, Stock, read_stock};
 use std::alloc::Global;
 use std::test::Fail;
@@ -40,7 +40,7 @@ fn walls_are_as_thick_as_their_plies(rt: HostRuntime) -> Result<(), Fail> {
 }
 
 #[test]
-fn faces_lie_round_the_middle(rt: HostRuntime) -> Result<(), Fail> {
+fn faces_lie_round_the_mid_plane(rt: HostRuntime) -> Result<(), Fail> {
     let stock = mat(rt.alloc(), 5000)?;
     assert!(rt; stock.items().len() == 1);
     let wall = wall(rt.alloc(), 2);
@@ -161,10 +161,10 @@ fn the_liner_carries_load_where_it_is_in_the_wall(rt: HostRuntime) -> Result<(),
                 run: None,
                 fewest: None,
                 thickness: None,
-                counts: Counts::of(Vec::new(alloc)),
+                counts: Entries::of(Vec::new(alloc)),
             },
-            cases: Cases::of(vec![in alloc; case]?),
-            panels: Panels::of(Vec::new(alloc)),
+            cases: Entries::of(vec![in alloc; case]?),
+            panels: Entries::of(Vec::new(alloc)),
         };
         assert_eq!(rt; wall_plies(&job, &listed).items(), expected);
     }

@@ -1,25 +1,8 @@
 -- The terms of the criterion in the variables of its enclosures: y/16 is a stress over 16 times a strength, and
 -- each term is that of f/4096.
-use Rattle.std.proofs.Common.{◌≡◌, refl, sym, ◌∙◌, ap, [], ◌∷◌, ℤ, pos, ◌<ℤ◌}
-use Rattle.std.specs.Prelude.{◌*ℤ◌}
-use Rattle.lam_fraction.specs.Fraction.{ℚ, whole, ◌-ℚ◌, ◌*ℚ◌, inverse, opposite}
-use Rattle.lam_fraction.proofs.FractionPairs.{whole-lt}
-use Rattle.lam_fraction.proofs.FractionRing.{whole-product}
-use Rattle.lam_fraction.proofs.Rationals.{quotes, by_ring, from₁, from₂, same_without_factor}
-use Rattle.lam_fraction.proofs.FractionBounds.{times-inverse}
-
--- 1 over a positive whole number
-pub one_over : (a : ℤ) → pos 0 <ℤ a → whole a *ℚ inverse (whole a) ≡ whole (pos 1)
-one_over a h = times-inverse ((whole-lt (pos 0) a).1 h)
-
-both_one : (a b i j : ℚ) → a *ℚ i ≡ whole (pos 1) → b *ℚ j ≡ whole (pos 1) → (a *ℚ b) *ℚ (i *ℚ j) ≡ whole (pos 1)
-both_one a b i j e f = from₂ (b *ℚ j) e (whole (pos 1)) f (by_ring (a ∷ b ∷ i ∷ j ∷ []) (search quotes depth 30) refl)
-
-pub inverse-product : (a b : ℤ) → pos 0 <ℤ a → pos 0 <ℤ b → pos 0 <ℤ (a *ℤ b) → inverse (whole (a *ℤ b)) ≡ inverse (whole a) *ℚ inverse (whole b)
-inverse-product a b p q pq =
-    same_without_factor (whole (a *ℤ b)) ((whole-lt (pos 0) (a *ℤ b)).1 pq)
-    (one_over (a *ℤ b) pq ∙ sym (ap (λ z. z *ℚ (inverse (whole a) *ℚ inverse (whole b))) (whole-product a b) ∙
-    both_one (whole a) (whole b) (inverse (whole a)) (inverse (whole b)) (one_over a p) (one_over b q)))
+use Rattle.std.proofs.Common.{◌≡◌, refl, [], ◌∷◌, pos}
+use Rattle.lam_fraction.specs.Fraction.{ℚ, whole, ◌-ℚ◌, ◌*ℚ◌, opposite}
+use Rattle.lam_fraction.proofs.Rationals.{quotes, by_ring, from₁, from₂}
 
 -- the linear term of an axis with strengths a and b in tension and compression; u is the stress, x and m the greater
 -- and the lesser strength, ix and im one over them, and d is 1/16

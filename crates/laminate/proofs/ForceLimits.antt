@@ -5,8 +5,9 @@ use Rattle.std.specs.Str.{is_utf8}
 use Rattle.std.proofs.lemmas.Int.{ints}
 use Rattle.toml.specs.Data.{Data, integer, string, float, boolean, datetime, array, table, Items, no_items, item, Members}
 use Rattle.toml.specs.Parse.{parse_document}
-use Rattle.laminate.specs.Job.{ForcesWithin, JobNumbers, case_of, case_of_value, force, job_of, job_of_document, one_case, one_item, whole, with_numbers}
-use Rattle.laminate.specs.Request.{or_unbuilt}
+use Rattle.laminate.specs.Job.{ForcesWithin, case_of, case_of_value, force, job_of, job_of_document, one_case, one_item, whole, with_numbers}
+use Rattle.laminate.specs.declared.job.Job.{Job}
+use Rattle.laminate.specs.Input.{or_unbuilt}
 
 abbrev IsWithin : ℤ → Type 0
 IsWithin z = unsigned_abs z ≤ 1000000000
@@ -82,10 +83,10 @@ job_within : (bytes : List ℕ) → IfSome (job_of bytes) ForcesWithin
 unfolding job_of
 job_within bytes = where_true ForcesWithin (is_utf8 bytes) (job_of_document (parse_document bytes)) (document_within (parse_document bytes))
 
-taken_within : (o : Option JobNumbers) (j : JobNumbers) → IfSome o ForcesWithin → or_unbuilt o ≡ Ok j → ForcesWithin j
+taken_within : (o : Option Job) (j : Job) → IfSome o ForcesWithin → or_unbuilt o ≡ Ok j → ForcesWithin j
 taken_within None j h e = cc
 taken_within (Some k) j h e = let same : k ≡ j = cc in subst ForcesWithin same h
 
 -- those of a job that was read
-pub forces_within : (bytes : List ℕ) (j : JobNumbers) → or_unbuilt (job_of bytes) ≡ Ok j → ForcesWithin j
+pub forces_within : (bytes : List ℕ) (j : Job) → or_unbuilt (job_of bytes) ≡ Ok j → ForcesWithin j
 forces_within bytes j e = taken_within (job_of bytes) j (job_within bytes) e

@@ -3,18 +3,18 @@ use Rattle.std.proofs.Common.{◌≡◌, refl, sym, ◌∙◌, ap, ap₂, [], �
 use Rattle.std.specs.Int.{int_min, int_max}
 use Rattle.std.proofs.lemmas.Int.{ints, clamps}
 use Rattle.lam_fraction.specs.Fraction.{ℚ, whole, fraction, ◌+ℚ◌, ◌-ℚ◌, ◌*ℚ◌, ◌/ℚ◌, inverse, opposite, ◌<ℚ◌}
-use Rattle.lam_fraction.specs.WholeNumbers.{product_positive}
+use Rattle.lam_fraction.specs.inside.WholeNumbers.{product_positive}
 use Rattle.lam_fraction.proofs.FractionPairs.{whole-le, whole-lt}
-use Rattle.lam_fraction.proofs.FractionRing.{whole-product}
+use Rattle.lam_fraction.proofs.FractionRing.{whole-product, product_comm, product_one}
+use Rattle.lam_fraction.proofs.WholeFractions.{inverse-product, inverse-whole, whole-difference}
 use Rattle.lam_fraction.proofs.Rationals.{quotes, by_ring, from₁, decide, inverse_positive, ◌*ₚ◌}
-use Rattle.lam_number.proofs.Rationals.{whole_difference}
 use Rattle.lam_stock.specs.declared.item.Lamina.{Lamina}
 use Rattle.lam_stock.specs.TsaiWu.{criterion, tsai_wu}
 use Rattle.laminate.specs.declared.ply_stress.PlyStress.{PlyStress}
-use Rattle.laminate.specs.StrengthRatio.{ply_stress_of}
-use Rattle.laminate.specs.ScaledCriterion.{linear_coefficient, quadratic_coefficient, mixed_coefficient, scaled_stress, terms_of, scaled_of, axis_value, scaled_value}
-use Rattle.laminate.proofs.StrengthBounds.{PositiveStrengths}
-use Rattle.laminate.proofs.CriterionTerms.{one_over, inverse-product, linear_term, linear_term_turned, square_term, cross_term, shear_term}
+use Rattle.laminate.specs.inside.StrengthRatio.{ply_stress_of}
+use Rattle.laminate.specs.inside.ScaledCriterion.{linear_coefficient, quadratic_coefficient, mixed_coefficient, scaled_stress, terms_of, scaled_of, axis_value, scaled_value}
+use Rattle.lam_stock.proofs.StrengthBounds.{PositiveStrengths}
+use Rattle.laminate.proofs.CriterionTerms.{linear_term, linear_term_turned, square_term, cross_term, shear_term}
 
 abbrev pub sixteenth : ℚ
 sixteenth = inverse (whole (pos 16))
@@ -40,10 +40,6 @@ inverse_4096 =
 over_product : (n k m : ℤ) → pos 0 <ℤ k → pos 0 <ℤ m → fraction n (k *ℤ m) ≡ whole n *ℚ (inverse (whole k) *ℚ inverse (whole m))
 unfolding fraction ◌/ℚ◌
 over_product n k m p q = ap (λ z. whole n *ℚ z) (inverse-product k m p q (product_positive k m p q))
-
-pub whole-difference : (m n : ℤ) → whole (m -ℤ n) ≡ whole m -ℚ whole n
-unfolding ◌-ℚ◌
-whole-difference m n = whole_difference m n
 
 linear_form : (t c m : ℤ) → pos 0 <ℤ m → fraction (c -ℤ t) (pos 256 *ℤ m) ≡ (whole c -ℚ whole t) *ℚ ((sixteenth *ℚ sixteenth) *ℚ inverse (whole m))
 linear_form t c m p =
@@ -77,12 +73,9 @@ lesser_first t c u p q h =
     let least : int_min t c ≡ t = omega (arith, ints, clamps, h) in
     let most : int_max t c ≡ c = omega (arith, ints, clamps, h) in
     rw (least, most) (rw (linear_form t c t p, quadratic_form c t p) (
-    axis_sum _ _ _ _ (linear_term (whole t) (whole c) (inverse (whole t)) (inverse (whole c)) sixteenth u (one_over t p) (one_over c q))
-    _ _ (square_term (whole c) (inverse (whole c)) (inverse (whole t)) sixteenth u (one_over c q))
-    (ap (λ z. (u *ℚ u) *ℚ z) (inverse-product t c p q (product_positive t c p q) ∙ swapped (inverse (whole t)) (inverse (whole c))))))
-  where
-    swapped : (a b : ℚ) → a *ℚ b ≡ b *ℚ a
-    swapped a b = by_ring (a ∷ b ∷ []) (search quotes depth 20) refl
+    axis_sum _ _ _ _ (linear_term (whole t) (whole c) (inverse (whole t)) (inverse (whole c)) sixteenth u (inverse-whole t p) (inverse-whole c q))
+    _ _ (square_term (whole c) (inverse (whole c)) (inverse (whole t)) sixteenth u (inverse-whole c q))
+    (ap (λ z. (u *ℚ u) *ℚ z) (inverse-product t c p q (product_positive t c p q) ∙ product_comm (inverse (whole t)) (inverse (whole c))))))
 
 greater_first : (t c : ℤ) (u : ℚ) → pos 0 <ℤ t → pos 0 <ℤ c → c ≤ℤ t
     → axis_value (linear_coefficient t c) (quadratic_coefficient t c) (u *ℚ (sixteenth *ℚ inverse (whole (int_max t c))))
@@ -92,8 +85,8 @@ greater_first t c u p q h =
     let least : int_min t c ≡ c = omega (arith, ints, clamps, h) in
     let most : int_max t c ≡ t = omega (arith, ints, clamps, h) in
     rw (least, most) (rw (linear_form t c c q, quadratic_form t c q) (
-    axis_sum _ _ _ _ (linear_term_turned (whole t) (whole c) (inverse (whole t)) (inverse (whole c)) sixteenth u (one_over t p) (one_over c q))
-    _ _ (square_term (whole t) (inverse (whole t)) (inverse (whole c)) sixteenth u (one_over t p))
+    axis_sum _ _ _ _ (linear_term_turned (whole t) (whole c) (inverse (whole t)) (inverse (whole c)) sixteenth u (inverse-whole t p) (inverse-whole c q))
+    _ _ (square_term (whole t) (inverse (whole t)) (inverse (whole c)) sixteenth u (inverse-whole t p))
     (ap (λ z. (u *ℚ u) *ℚ z) (inverse-product t c p q (product_positive t c p q)))))
 
 pub axis_is : (t c : ℤ) (u : ℚ) → pos 0 <ℤ t → pos 0 <ℤ c
@@ -109,7 +102,7 @@ axis_is t c u p q =
 eighth : inverse (whole (pos 8)) ≡ whole (pos 2) *ℚ sixteenth
 eighth =
     let e : inverse (whole (pos 16)) ≡ inverse (whole (pos 2)) *ℚ inverse (whole (pos 8)) = inverse-product (pos 2) (pos 8) (omega (arith, ints)) (omega (arith, ints)) (omega (arith, ints)) in
-    rw e (halves (inverse (whole (pos 2))) (inverse (whole (pos 8))) (one_over (pos 2) (omega (arith, ints))))
+    rw e (halves (inverse (whole (pos 2))) (inverse (whole (pos 8))) (inverse-whole (pos 2) (omega (arith, ints))))
   where
     halves : (a b : ℚ) → whole (pos 2) *ℚ a ≡ whole (pos 1) → b ≡ whole (pos 2) *ℚ (a *ℚ b)
     halves a b h = from₁ (opposite b) h (by_ring (a ∷ b ∷ []) (search quotes depth 20) refl)
@@ -134,21 +127,15 @@ rearranged p q r s t g v i = by_ring (p ∷ q ∷ r ∷ s ∷ t ∷ g ∷ v ∷ 
 
 one_part : fraction (pos 1) (pos 4096) ≡ unit_value
 unfolding fraction ◌/ℚ◌
-one_part = ap (λ z. whole (pos 1) *ℚ z) inverse_4096 ∙ once unit_value
-  where
-    once : (x : ℚ) → whole (pos 1) *ℚ x ≡ x
-    once x = by_ring (x ∷ []) (search quotes depth 20) refl
+one_part = ap (λ z. whole (pos 1) *ℚ z) inverse_4096 ∙ product_comm (whole (pos 1)) unit_value ∙ product_one unit_value
 
 shear_part : (u : ℚ) (s : ℤ) → pos 0 <ℤ s
     → fraction (pos 1) (pos 16) *ℚ ((u *ℚ (sixteenth *ℚ inverse (whole s))) *ℚ (u *ℚ (sixteenth *ℚ inverse (whole s)))) ≡ unit_value *ℚ ((u *ℚ u) /ℚ whole (s *ℤ s))
 unfolding fraction ◌/ℚ◌
 shear_part u s p =
-    ap (λ z. z *ℚ ((u *ℚ (sixteenth *ℚ inverse (whole s))) *ℚ (u *ℚ (sixteenth *ℚ inverse (whole s))))) (once sixteenth)
+    ap (λ z. z *ℚ ((u *ℚ (sixteenth *ℚ inverse (whole s))) *ℚ (u *ℚ (sixteenth *ℚ inverse (whole s))))) (product_comm (whole (pos 1)) sixteenth ∙ product_one sixteenth)
     ∙ shear_term (inverse (whole s)) sixteenth u
     ∙ ap (λ z. unit_value *ℚ ((u *ℚ u) *ℚ z)) (sym (inverse-product s s p p (product_positive s s p p)))
-  where
-    once : (x : ℚ) → whole (pos 1) *ℚ x ≡ x
-    once x = by_ring (x ∷ []) (search quotes depth 20) refl
 
 greater_positive : (t c : ℤ) → pos 0 <ℤ t → pos 0 <ℤ int_max t c
 greater_positive t c p = omega (arith, ints, clamps, p)
@@ -162,7 +149,7 @@ mixed_part l u v h =
     let y = int_max l.yt l.yc in
     ap (λ z. z *ℚ ((u *ℚ (sixteenth *ℚ inverse (whole x))) *ℚ (v *ℚ (sixteenth *ℚ inverse (whole y))))) (mixed_form l.f12 x y)
     ∙ cross_term (whole x) (whole y) (inverse (whole x)) (inverse (whole y)) sixteenth u v (whole (pos 2 *ℤ l.f12) *ℚ inverse (whole (pos (10 ^ 18))))
-    (one_over x (greater_positive l.xt l.xc h.xt)) (one_over y (greater_positive l.yt l.yc h.yt))
+    (inverse-whole x (greater_positive l.xt l.xc h.xt)) (inverse-whole y (greater_positive l.yt l.yc h.yt))
 
 pub scaled-value : (l : Lamina) (s : PlyStress) (r : ℕ) → PositiveStrengths l
     → scaled_value (terms_of l) (scaled_of l s r) ≡ unit_value *ℚ (tsai_wu l (ply_stress_of s) (whole (pos r)) -ℚ whole (pos 1))

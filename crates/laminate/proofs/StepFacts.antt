@@ -10,14 +10,17 @@ use Rattle.laminate.specs.declared.fault.Fault.{Fault}
 use Rattle.laminate.specs.declared.fault.Fault.TheVariants.{TooLong, Unbuilt}
 use Rattle.laminate.specs.declared.fault.Source.{Source}
 use Rattle.laminate.specs.declared.fault.Source.TheVariants as source
-use Rattle.laminate.specs.declared.status.Status.TheVariants as status
 use Rattle.laminate.specs.declared.fault.Stop.{Stop}
 use Rattle.laminate.specs.declared.fault.Stop.TheVariants as stop
-use Rattle.laminate.specs.Answers.{IsContent}
+use Rattle.laminate.specs.declared.input.Input.{Input}
+use Rattle.laminate.specs.declared.job.Job.{Job}
+use Rattle.laminate.specs.declared.status.Status.TheVariants as status
 use Rattle.laminate.specs.Faults.{fault_status}
-use Rattle.laminate.specs.Job.{JobNumbers, job_of}
-use Rattle.laminate.specs.Steps.{Analyses, Gives}
-use Rattle.laminate.specs.Request.{Request, catalogue_or_fault, forces_in_range, item_named, loaded, or_unbuilt, request_of, single_ply, then_step, within_length}
+use Rattle.laminate.specs.Input.{catalogue_or_fault, input_of, or_unbuilt, then_step, within_length}
+use Rattle.laminate.specs.Job.{job_of}
+use Rattle.laminate.specs.Outside.{IsContent}
+use Rattle.laminate.specs.Request.{Request, forces_in_range, item_named, loaded, request_of, requested, single_ply}
+use Rattle.laminate.specs.inside.Steps.{Gives}
 
 -- ---- a file's length
 
@@ -59,91 +62,101 @@ then_ok {A = A} r a next e = ap (λ (x : Result A Fault). then_step x next) e
 pub then_err : {A B : Type 0} (r : Result A Fault) (fault : Fault) (next : A → Result B Fault) → r ≡ Err fault → then_step r next ≡ Err fault
 then_err {A = A} r fault next e = ap (λ (x : Result A Fault). then_step x next) e
 
--- the steps left after the ply, the job, the catalogue and the two lengths
-abbrev after_ply : List Item → JobNumbers → Item → Result Request Fault
-after_ply items j i = loaded items i j
+-- the steps left after the catalogue and the two lengths
+abbrev read : List Item → Job → Result Input Fault
+read items j = Ok (record { stock = items; job = j })
 
-abbrev after_job : List ℕ → List Item → JobNumbers → Result Request Fault
-after_job schedule items j = then_step (or_unbuilt (single_ply (item_named schedule items))) (after_ply items j)
+abbrev after_stock : List ℕ → List Item → Result Input Fault
+after_stock job items = then_step (or_unbuilt (job_of job)) (read items)
 
-abbrev after_stock : List ℕ → List ℕ → List Item → Result Request Fault
-after_stock job schedule items = then_step (or_unbuilt (job_of job)) (after_job schedule items)
+abbrev after_lengths : List ℕ → List ℕ → List ℕ → Result Input Fault
+after_lengths job catalogue _ = then_step (catalogue_or_fault (stock_of catalogue)) (after_stock job)
 
-abbrev after_lengths : List ℕ → List ℕ → List ℕ → List ℕ → Result Request Fault
-after_lengths job catalogue schedule _ = then_step (catalogue_or_fault (stock_of catalogue)) (after_stock job schedule)
+abbrev after_length : List ℕ → List ℕ → List ℕ → Result Input Fault
+after_length job catalogue _ = then_step (within_length source.Catalogue catalogue) (after_lengths job catalogue)
 
-abbrev after_length : List ℕ → List ℕ → List ℕ → List ℕ → Result Request Fault
-after_length job catalogue schedule _ = then_step (within_length source.Catalogue catalogue) (after_lengths job catalogue schedule)
+steps_are : (job catalogue : List ℕ) → input_of job catalogue ≡ then_step (within_length source.Job job) (after_length job catalogue)
+unfolding input_of
+steps_are job catalogue = refl
 
-steps_are : (job catalogue schedule : List ℕ)
-    → request_of job catalogue schedule ≡ then_step (within_length source.Job job) (after_length job catalogue schedule)
-unfolding request_of
-steps_are job catalogue schedule = refl
+pub long_job : (job catalogue : List ℕ) (fault : Fault) → within_length source.Job job ≡ Err fault → input_of job catalogue ≡ Err fault
+long_job job catalogue fault e =
+    steps_are job catalogue ∙ then_err (within_length source.Job job) fault (after_length job catalogue) e
 
-pub long_job : (job catalogue schedule : List ℕ) (fault : Fault) → within_length source.Job job ≡ Err fault
-    → request_of job catalogue schedule ≡ Err fault
-long_job job catalogue schedule fault e =
-    steps_are job catalogue schedule ∙ then_err (within_length source.Job job) fault (after_length job catalogue schedule) e
+at_catalogue : (job catalogue : List ℕ) → within_length source.Job job ≡ Ok job
+    → input_of job catalogue ≡ then_step (within_length source.Catalogue catalogue) (after_lengths job catalogue)
+at_catalogue job catalogue e =
+    steps_are job catalogue ∙ then_ok (within_length source.Job job) job (after_length job catalogue) e
 
-at_catalogue : (job catalogue schedule : List ℕ) → within_length source.Job job ≡ Ok job
-    → request_of job catalogue schedule ≡ then_step (within_length source.Catalogue catalogue) (after_lengths job catalogue schedule)
-at_catalogue job catalogue schedule e =
-    steps_are job catalogue schedule ∙ then_ok (within_length source.Job job) job (after_length job catalogue schedule) e
-
-pub long_catalogue : (job catalogue schedule : List ℕ) (fault : Fault) → within_length source.Job job ≡ Ok job
-    → within_length source.Catalogue catalogue ≡ Err fault → request_of job catalogue schedule ≡ Err fault
-long_catalogue job catalogue schedule fault e f =
-    at_catalogue job catalogue schedule e
-    ∙ then_err (within_length source.Catalogue catalogue) fault (after_lengths job catalogue schedule) f
+pub long_catalogue : (job catalogue : List ℕ) (fault : Fault) → within_length source.Job job ≡ Ok job
+    → within_length source.Catalogue catalogue ≡ Err fault → input_of job catalogue ≡ Err fault
+long_catalogue job catalogue fault e f =
+    at_catalogue job catalogue e ∙ then_err (within_length source.Catalogue catalogue) fault (after_lengths job catalogue) f
 
 -- both files are within their length
 pub record Short (job catalogue : List ℕ) : Type 0 where
   pub job_is : within_length source.Job job ≡ Ok job
   pub catalogue_is : within_length source.Catalogue catalogue ≡ Ok catalogue
 
-at_stock : (job catalogue schedule : List ℕ) → Short job catalogue
-    → request_of job catalogue schedule ≡ then_step (catalogue_or_fault (stock_of catalogue)) (after_stock job schedule)
-at_stock job catalogue schedule s =
-    at_catalogue job catalogue schedule s.job_is
-    ∙ then_ok (within_length source.Catalogue catalogue) catalogue (after_lengths job catalogue schedule) s.catalogue_is
+at_stock : (job catalogue : List ℕ) → Short job catalogue
+    → input_of job catalogue ≡ then_step (catalogue_or_fault (stock_of catalogue)) (after_stock job)
+at_stock job catalogue s =
+    at_catalogue job catalogue s.job_is
+    ∙ then_ok (within_length source.Catalogue catalogue) catalogue (after_lengths job catalogue) s.catalogue_is
 
-pub bad_catalogue : (job catalogue schedule : List ℕ) (fault : Fault) → Short job catalogue
-    → catalogue_or_fault (stock_of catalogue) ≡ Err fault → request_of job catalogue schedule ≡ Err fault
-bad_catalogue job catalogue schedule fault s e =
-    at_stock job catalogue schedule s ∙ then_err (catalogue_or_fault (stock_of catalogue)) fault (after_stock job schedule) e
+-- the catalogue stops the reading
+pub stock_stops : (job catalogue : List ℕ) (why : Stop) → Short job catalogue
+    → Gives (catalogue_or_fault (stock_of catalogue)) (Err why) → Gives (input_of job catalogue) (Err why)
+stock_stops job catalogue (stop.Fault fault) s e =
+    at_stock job catalogue s ∙ then_err (catalogue_or_fault (stock_of catalogue)) fault (after_stock job) e
+stock_stops job catalogue stop.Memory s _ = tt
 
 -- and the catalogue has these items
-at_job : (job catalogue schedule : List ℕ) (items : List Item) → Short job catalogue
-    → catalogue_or_fault (stock_of catalogue) ≡ Ok items
-    → request_of job catalogue schedule ≡ then_step (or_unbuilt (job_of job)) (after_job schedule items)
-at_job job catalogue schedule items s e =
-    at_stock job catalogue schedule s ∙ then_ok (catalogue_or_fault (stock_of catalogue)) items (after_stock job schedule) e
+at_job : (job catalogue : List ℕ) (items : List Item) → Short job catalogue → catalogue_or_fault (stock_of catalogue) ≡ Ok items
+    → input_of job catalogue ≡ then_step (or_unbuilt (job_of job)) (read items)
+at_job job catalogue items s e =
+    at_stock job catalogue s ∙ then_ok (catalogue_or_fault (stock_of catalogue)) items (after_stock job) e
 
-pub bad_job : (job catalogue schedule : List ℕ) (items : List Item) (fault : Fault) → Short job catalogue
-    → catalogue_or_fault (stock_of catalogue) ≡ Ok items → or_unbuilt (job_of job) ≡ Err fault
+-- the job stops the reading
+pub job_stops : (job catalogue : List ℕ) (items : List Item) (why : Stop) → Short job catalogue
+    → catalogue_or_fault (stock_of catalogue) ≡ Ok items → Gives (or_unbuilt (job_of job)) (Err why)
+    → Gives (input_of job catalogue) (Err why)
+job_stops job catalogue items (stop.Fault fault) s e f =
+    at_job job catalogue items s e ∙ then_err (or_unbuilt (job_of job)) fault (read items) f
+job_stops job catalogue items stop.Memory s e _ = tt
+
+pub both_read : (job catalogue : List ℕ) (items : List Item) (j : Job) → Short job catalogue
+    → catalogue_or_fault (stock_of catalogue) ≡ Ok items → or_unbuilt (job_of job) ≡ Ok j
+    → input_of job catalogue ≡ Ok (record { stock = items; job = j })
+both_read job catalogue items j s e f =
+    at_job job catalogue items s e ∙ then_ok (or_unbuilt (job_of job)) j (read items) f
+
+-- ---- what the files say decides what is asked for
+
+pub asked_of : (job catalogue schedule : List ℕ) (input : Input) → input_of job catalogue ≡ Ok input
+    → request_of job catalogue schedule ≡ requested schedule input
+unfolding request_of
+asked_of job catalogue schedule input e = then_ok (input_of job catalogue) input (requested schedule) e
+
+pub unasked : (job catalogue schedule : List ℕ) (fault : Fault) → input_of job catalogue ≡ Err fault
     → request_of job catalogue schedule ≡ Err fault
-bad_job job catalogue schedule items fault s e f =
-    at_job job catalogue schedule items s e ∙ then_err (or_unbuilt (job_of job)) fault (after_job schedule items) f
+unfolding request_of
+unasked job catalogue schedule fault e = then_err (input_of job catalogue) fault (requested schedule) e
 
-at_ply : (job catalogue schedule : List ℕ) (items : List Item) (j : JobNumbers) → Short job catalogue
-    → catalogue_or_fault (stock_of catalogue) ≡ Ok items → or_unbuilt (job_of job) ≡ Ok j
-    → request_of job catalogue schedule ≡ then_step (or_unbuilt (single_ply (item_named schedule items))) (after_ply items j)
-at_ply job catalogue schedule items j s e f =
-    at_job job catalogue schedule items s e ∙ then_ok (or_unbuilt (job_of job)) j (after_job schedule items) f
+-- ---- the schedule word and the range of loads
 
-pub bad_schedule : (job catalogue schedule : List ℕ) (items : List Item) (j : JobNumbers) → Short job catalogue
-    → catalogue_or_fault (stock_of catalogue) ≡ Ok items → or_unbuilt (job_of job) ≡ Ok j
-    → single_ply (item_named schedule items) ≡ None → request_of job catalogue schedule ≡ Err Unbuilt
-bad_schedule job catalogue schedule items j s e f none =
-    at_ply job catalogue schedule items j s e f
-    ∙ then_err (or_unbuilt (single_ply (item_named schedule items))) Unbuilt (after_ply items j) (ap or_unbuilt none)
+abbrev after_ply : Input → Item → Result Request Fault
+after_ply input i = loaded input.stock i input.job
 
-at_load : (job catalogue schedule : List ℕ) (items : List Item) (j : JobNumbers) (i : Item) → Short job catalogue
-    → catalogue_or_fault (stock_of catalogue) ≡ Ok items → or_unbuilt (job_of job) ≡ Ok j
-    → single_ply (item_named schedule items) ≡ Some i → request_of job catalogue schedule ≡ loaded items i j
-at_load job catalogue schedule items j i s e f some =
-    at_ply job catalogue schedule items j s e f
-    ∙ then_ok (or_unbuilt (single_ply (item_named schedule items))) i (after_ply items j) (ap or_unbuilt some)
+pub bad_schedule : (schedule : List ℕ) (input : Input) → single_ply (item_named schedule input.stock) ≡ None
+    → requested schedule input ≡ Err Unbuilt
+bad_schedule schedule input none =
+    then_err (or_unbuilt (single_ply (item_named schedule input.stock))) Unbuilt (after_ply input) (ap or_unbuilt none)
+
+at_load : (schedule : List ℕ) (input : Input) (i : Item) → single_ply (item_named schedule input.stock) ≡ Some i
+    → requested schedule input ≡ loaded input.stock i input.job
+at_load schedule input i some =
+    then_ok (or_unbuilt (single_ply (item_named schedule input.stock))) i (after_ply input) (ap or_unbuilt some)
 
 abbrev granted_if : Bool → Request → Result Request Fault
 granted_if b q = if b then Ok q else Err Unbuilt
@@ -156,38 +169,22 @@ if_false : (b : Bool) (q : Request) → b ≡ false → granted_if b q ≡ Err U
 if_false true q e = cc
 if_false false q e = refl
 
-pub out_of_range : (job catalogue schedule : List ℕ) (items : List Item) (j : JobNumbers) (i : Item) (floor : ℤ)
-    → Short job catalogue
-    → catalogue_or_fault (stock_of catalogue) ≡ Ok items → or_unbuilt (job_of job) ≡ Ok j
-    → single_ply (item_named schedule items) ≡ Some i → floor ≡ (scale_of items).floor
-    → forces_in_range floor i.lamina.t j ≡ false → request_of job catalogue schedule ≡ Err Unbuilt
-out_of_range job catalogue schedule items j i floor s e f some at out =
-    at_load job catalogue schedule items j i s e f some
-    ∙ if_false (forces_in_range (scale_of items).floor i.lamina.t j) (record { item = i; job = j })
-    (ap (λ (x : ℤ). forces_in_range x i.lamina.t j) (sym at) ∙ out)
+pub out_of_range : (schedule : List ℕ) (input : Input) (i : Item) (floor : ℤ)
+    → single_ply (item_named schedule input.stock) ≡ Some i → floor ≡ (scale_of input.stock).floor
+    → forces_in_range floor i.lamina.t input.job ≡ false → requested schedule input ≡ Err Unbuilt
+out_of_range schedule input i floor some at out =
+    at_load schedule input i some
+    ∙ if_false (forces_in_range (scale_of input.stock).floor i.lamina.t input.job) (record { item = i; job = input.job })
+    (ap (λ (x : ℤ). forces_in_range x i.lamina.t input.job) (sym at) ∙ out)
 
-pub granted : (job catalogue schedule : List ℕ) (items : List Item) (j : JobNumbers) (i : Item) (floor : ℤ)
-    → Short job catalogue
-    → catalogue_or_fault (stock_of catalogue) ≡ Ok items → or_unbuilt (job_of job) ≡ Ok j
-    → single_ply (item_named schedule items) ≡ Some i → floor ≡ (scale_of items).floor
-    → forces_in_range floor i.lamina.t j ≡ true → request_of job catalogue schedule ≡ Ok (record { item = i; job = j })
-granted job catalogue schedule items j i floor s e f some at inside =
-    at_load job catalogue schedule items j i s e f some
-    ∙ if_true (forces_in_range (scale_of items).floor i.lamina.t j) (record { item = i; job = j })
-    (ap (λ (x : ℤ). forces_in_range x i.lamina.t j) (sym at) ∙ inside)
-
--- ---- a step that stops, stops the analysis
-
-pub stock_stops : (job catalogue schedule : List ℕ) (why : Stop) → Short job catalogue
-    → Gives (catalogue_or_fault (stock_of catalogue)) (Err why) → Analyses (request_of job catalogue schedule) (Err why)
-stock_stops job catalogue schedule (stop.Fault fault) s e = bad_catalogue job catalogue schedule fault s e
-stock_stops job catalogue schedule stop.Memory s _ = tt
-
-pub job_stops : (job catalogue schedule : List ℕ) (items : List Item) (why : Stop) → Short job catalogue
-    → catalogue_or_fault (stock_of catalogue) ≡ Ok items → Gives (or_unbuilt (job_of job)) (Err why)
-    → Analyses (request_of job catalogue schedule) (Err why)
-job_stops job catalogue schedule items (stop.Fault fault) s e f = bad_job job catalogue schedule items fault s e f
-job_stops job catalogue schedule items stop.Memory s e _ = tt
+pub granted : (schedule : List ℕ) (input : Input) (i : Item) (floor : ℤ)
+    → single_ply (item_named schedule input.stock) ≡ Some i → floor ≡ (scale_of input.stock).floor
+    → forces_in_range floor i.lamina.t input.job ≡ true
+    → requested schedule input ≡ Ok (record { item = i; job = input.job })
+granted schedule input i floor some at inside =
+    at_load schedule input i some
+    ∙ if_true (forces_in_range (scale_of input.stock).floor i.lamina.t input.job) (record { item = i; job = input.job })
+    (ap (λ (x : ℤ). forces_in_range x i.lamina.t input.job) (sym at) ∙ inside)
 
 -- ---- each refusal ends with the status for one
 
@@ -216,18 +213,26 @@ load_refuses : (b : Bool) (q : Request) → Refuses (granted_if b q)
 load_refuses true q = tt
 load_refuses false q = refl
 
-request_refuses : (job catalogue schedule : List ℕ) → Refuses (request_of job catalogue schedule)
-request_refuses job catalogue schedule =
-    subst Refuses (sym (steps_are job catalogue schedule))
-    (then_refuses (within_length source.Job job) (after_length job catalogue schedule)
+input_refuses : (job catalogue : List ℕ) → Refuses (input_of job catalogue)
+input_refuses job catalogue =
+    subst Refuses (sym (steps_are job catalogue))
+    (then_refuses (within_length source.Job job) (after_length job catalogue)
     (length_refuses source.Job job (nat_le (length job) 1048576)) (λ _.
-    then_refuses (within_length source.Catalogue catalogue) (after_lengths job catalogue schedule)
+    then_refuses (within_length source.Catalogue catalogue) (after_lengths job catalogue)
     (length_refuses source.Catalogue catalogue (nat_le (length catalogue) 1048576)) (λ _.
-    then_refuses (catalogue_or_fault (stock_of catalogue)) (after_stock job schedule) (stock_refuses (stock_of catalogue)) (λ items.
-    then_refuses (or_unbuilt (job_of job)) (after_job schedule items) (unbuilt_refuses (job_of job)) (λ j.
-    then_refuses (or_unbuilt (single_ply (item_named schedule items))) (after_ply items j)
-    (unbuilt_refuses (single_ply (item_named schedule items))) (λ i.
-    load_refuses (forces_in_range (scale_of items).floor i.lamina.t j) (record { item = i; job = j })))))))
+    then_refuses (catalogue_or_fault (stock_of catalogue)) (after_stock job) (stock_refuses (stock_of catalogue)) (λ items.
+    then_refuses (or_unbuilt (job_of job)) (read items) (unbuilt_refuses (job_of job)) (λ j. tt)))))
+
+requested_refuses : (schedule : List ℕ) (input : Input) → Refuses (requested schedule input)
+requested_refuses schedule input =
+    then_refuses (or_unbuilt (single_ply (item_named schedule input.stock))) (after_ply input)
+    (unbuilt_refuses (single_ply (item_named schedule input.stock))) (λ i.
+    load_refuses (forces_in_range (scale_of input.stock).floor i.lamina.t input.job) (record { item = i; job = input.job }))
+
+request_refuses : (job catalogue schedule : List ℕ) → Refuses (request_of job catalogue schedule)
+unfolding request_of
+request_refuses job catalogue schedule =
+    then_refuses (input_of job catalogue) (requested schedule) (input_refuses job catalogue) (requested_refuses schedule)
 
 pub refusal_status : (job catalogue schedule : List ℕ) (fault : Fault) → request_of job catalogue schedule ≡ Err fault
     → fault_status fault ≡ status.Refused

@@ -3,12 +3,12 @@
 use Rattle.std.proofs.Common.{◌≡◌, refl, sym, ◌∙◌, ap, ap₂, [], ◌∷◌, ℤ, pos, ◌<ℤ◌}
 use Rattle.std.specs.Prelude.{◌+ℤ◌, ◌-ℤ◌, ◌*ℤ◌}
 use Rattle.lam_fraction.specs.Fraction.{ℚ, whole, fraction, ◌+ℚ◌, ◌-ℚ◌, ◌*ℚ◌}
-use Rattle.lam_fraction.specs.WholeNumbers.{product_positive}
+use Rattle.lam_fraction.specs.inside.WholeNumbers.{product_positive}
 use Rattle.lam_fraction.proofs.FractionRing.{whole-product, whole-sum}
+use Rattle.lam_fraction.proofs.WholeFractions.{whole-difference}
 use Rattle.lam_fraction.proofs.Rationals.{by_ring, quotes, fraction_times, fraction_only}
-use Rattle.lam_stock.specs.PlyLaw.{InPly, stress_turned}
+use Rattle.lam_stock.specs.PlyLaw.{OnAxis, stress_on_axis}
 use Rattle.laminate.specs.Turning.{along_of, across_of, shear_of, wall_stress}
-use Rattle.laminate.proofs.ScaledValue.{whole-difference}
 
 -- the turned components as polynomials, over ℚ
 along_form : (h t c s x y z : ℚ)
@@ -58,8 +58,8 @@ module _ (p q h x y s t : ℤ) (size : pos 0 <ℤ h) (thick : pos 0 <ℤ t) wher
   abbrev over : ℤ
   over = (h *ℤ h) *ℤ t
 
-  abbrev turned : InPly
-  turned = stress_turned (fraction p h) (fraction q h) (wall_stress x y s t)
+  abbrev turned : OnAxis
+  turned = stress_on_axis (fraction p h) (fraction q h) (wall_stress x y s t)
 
   along_is : fraction (along_of p q x y s) over ≡ turned.along
   along_is = sym (fraction_only (along_of p q x y s) over turned.along (over_positive h t size thick)

@@ -2,15 +2,15 @@
 use Rattle.std.proofs.Common.{◌≡◌, refl, ℤ, pos, negsuc}
 use mathlib.Core.Quot.{sound}
 use Rattle.lam_fraction.specs.Fraction.{whole, fraction, class_of, ◌+ℚ◌, ◌-ℚ◌, ◌*ℚ◌, ◌/ℚ◌, opposite, inverse}
-use Rattle.lam_fraction.specs.Quotient.{of_two, on_one, on_two}
+use Rattle.lam_fraction.specs.inside.Quotient.{of_two, on_one, on_two}
 use Rattle.lam_direction.specs.Circle.{CirclePoint}
-use Rattle.lam_stock.specs.PlyLaw.{InPly, cosine, sine}
+use Rattle.lam_stock.specs.PlyLaw.{OnAxis, cosine, sine}
 use Rattle.laminate.specs.Turning.{stress_in_ply}
 
 abbrev leaning : ℤ → CirclePoint
 leaning q = record { p = pos 3; q = q; h = pos 5 }
 
-record IsInHundredths (t : InPly) (along across shear : ℤ) : Type 0 where
+record IsInHundredths (t : OnAxis) (along across shear : ℤ) : Type 0 where
   along_is : t.along ≡ fraction along (pos 100)
   across_is : t.across ≡ fraction across (pos 100)
   shear_is : t.shear ≡ fraction shear (pos 100)

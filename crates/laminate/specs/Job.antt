@@ -3,16 +3,10 @@ use Rattle.std.specs.Prelude.{ℕ, ◌≤◌, unsigned_abs, ℤ, pos, negsuc, Li
 use Rattle.std.specs.Str.{is_utf8}
 use Rattle.toml.specs.Data.{Data, integer, string, array, table, Items, no_items, item, Members, no_members, member, get_member}
 use Rattle.toml.specs.Parse.{parse_document}
-
--- the force resultants of the one case in N/m, and its factor in thousandths
-pub record JobNumbers : Type 0 where
-  pub nx : ℤ
-  pub ny : ℤ
-  pub nxy : ℤ
-  pub factor : ℤ
+use Rattle.laminate.specs.declared.job.Job.{Job}
 
 -- each force is at most 10⁹ N/m in size
-pub record ForcesWithin (j : JobNumbers) : Type 0 where
+pub record ForcesWithin (j : Job) : Type 0 where
   pub nx : unsigned_abs j.nx ≤ 1000000000
   pub ny : unsigned_abs j.ny ≤ 1000000000
   pub nxy : unsigned_abs j.nxy ≤ 1000000000
@@ -47,7 +41,7 @@ is_resultants (Some (string s)) = bytes_eq s (codes "resultants")
 is_resultants _ = false
 
 -- the job, where each of its numbers is there
-abbrev pub with_numbers : Option ℤ → Option ℤ → Option ℤ → Option ℤ → Option JobNumbers
+abbrev pub with_numbers : Option ℤ → Option ℤ → Option ℤ → Option ℤ → Option Job
 with_numbers (Some x) (Some y) (Some s) (Some f) = Some (record { nx = x; ny = y; nxy = s; factor = f })
 with_numbers _ _ _ _ = None
 
@@ -55,23 +49,23 @@ abbrev pub case_keys : List (List ℕ)
 case_keys = codes "factor" ∷ codes "kind" ∷ codes "nx" ∷ codes "nxy" ∷ codes "ny" ∷ []
 
 -- a case of resultants in the wall's plane
-abbrev pub case_of : Members → Option JobNumbers
+abbrev pub case_of : Members → Option Job
 case_of ms =
     if has_only case_keys ms && is_resultants (get_member (codes "kind") ms)
     then with_numbers (force (get_member (codes "nx") ms)) (force (get_member (codes "ny") ms))
     (force (get_member (codes "nxy") ms)) (required (pos 1000) (pos 20000) (get_member (codes "factor") ms))
     else None
 
-abbrev pub case_of_value : Data → Option JobNumbers
+abbrev pub case_of_value : Data → Option Job
 case_of_value (table ms) = case_of ms
 case_of_value _ = None
 
 -- a list of just one case
-abbrev pub one_item : Items → Option JobNumbers
+abbrev pub one_item : Items → Option Job
 one_item (item d no_items) = case_of_value d
 one_item _ = None
 
-abbrev pub one_case : Option Data → Option JobNumbers
+abbrev pub one_case : Option Data → Option Job
 one_case (Some (array ds)) = one_item ds
 one_case _ = None
 
@@ -83,7 +77,7 @@ is_there None = false
 is_there (Some z) = true
 
 -- the job that a table is: version 1, a limit of 1 to 56, and one case
-abbrev pub job_of_table : Members → Option JobNumbers
+abbrev pub job_of_table : Members → Option Job
 job_of_table ms =
     if has_only top_keys ms
     && (is_there (required (pos 1) (pos 1) (get_member (codes "version") ms))
@@ -91,10 +85,10 @@ job_of_table ms =
     then one_case (get_member (codes "case") ms)
     else None
 
-abbrev pub job_of_document : Option Members → Option JobNumbers
+abbrev pub job_of_document : Option Members → Option Job
 job_of_document None = None
 job_of_document (Some ms) = job_of_table ms
 
 -- the job that the bytes of a file are
-unfoldable pub job_of : List ℕ → Option JobNumbers
+unfoldable pub job_of : List ℕ → Option Job
 job_of bytes = if is_utf8 bytes then job_of_document (parse_document bytes) else None

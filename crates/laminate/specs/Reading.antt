@@ -1,5 +1,6 @@
 -- What the words of the command line ask for.
-use Rattle.std.specs.Prelude.{ℕ, List, [], ◌∷◌, Bool, false, not, ◌||◌, Option, Some, None, codes, nat_eq, bytes_eq, if◌then◌else◌}
+use Rattle.std.specs.Prelude.{ℕ, List, [], ◌∷◌, Bool, false, not, ◌||◌, Option, Some, None, codes, nat_eq, bytes_eq, if◌then◌else◌, map, string_bytes, String}
+use Rattle.std.specs.Global.{Global}
 
 -- an order to analyse: the names of the job and the catalogue, and the schedule word
 pub record OrderWords : Type 0 where
@@ -23,3 +24,7 @@ reading (m ∷ j ∷ c ∷ s ∷ x ∷ rest) = None
 reading (m ∷ j ∷ c ∷ s ∷ []) =
     if not (bytes_eq m (codes "analyse")) || is_dashed j || is_dashed c || is_dashed s then None
     else Some (record { job = j; catalogue = c; schedule = s })
+
+-- the order that texts are, if they are one
+abbrev pub order_of : List (String Global) → Option OrderWords
+order_of words = reading (map string_bytes words)

@@ -2,15 +2,15 @@
 use Rattle.std.specs.Prelude.{ℤ, pos, ◌+ℤ◌, ◌-ℤ◌, ◌*ℤ◌}
 use Rattle.lam_fraction.specs.Fraction.{fraction}
 use Rattle.lam_direction.specs.Circle.{CirclePoint}
-use Rattle.lam_stock.specs.PlyLaw.{InWall, InPly, cosine, sine, stress_turned}
+use Rattle.lam_stock.specs.PlyLaw.{OffAxis, OnAxis, cosine, sine, stress_on_axis}
 
 -- the mean stress of a wall in MPa: its forces in N/m over its thickness in µm
-abbrev pub wall_stress : (x y s thickness : ℤ) → InWall
+abbrev pub wall_stress : (x y s thickness : ℤ) → OffAxis
 wall_stress x y s thickness = record { x = fraction x thickness; y = fraction y thickness; s = fraction s thickness }
 
 -- that stress in the axes of a ply of that direction
-abbrev pub stress_in_ply : CirclePoint → (x y s thickness : ℤ) → InPly
-stress_in_ply d x y s thickness = stress_turned (cosine d) (sine d) (wall_stress x y s thickness)
+abbrev pub stress_in_ply : CirclePoint → (x y s thickness : ℤ) → OnAxis
+stress_in_ply d x y s thickness = stress_on_axis (cosine d) (sine d) (wall_stress x y s thickness)
 
 -- its components times t h², of a thickness t and a direction (p, q, h)
 abbrev pub along_of : (p q x y s : ℤ) → ℤ

@@ -31,7 +31,8 @@ pub struct Analysis {
 
 /// The text of an analysis of a wall of one ply that keeps every rule.
 pub fn analysis_text(alloc: Global, analysis: &Analysis) -> Result<String, AllocError>
-    ensures { IfOk result (λ s. string_bytes s ≡ analysis_of analysis.now.cost analysis.now.ratio.0) }
+    ensures { IfOk result (λ s.
+        string_bytes s ≡ analysis_of analysis.now.cost analysis.now.ratio.0) }
 {
     let cost = analysis.cost;
     let ratio = analysis.ratio;

@@ -9,16 +9,16 @@
 ghost use Rattle.std.specs.Prelude.{◌≡◌, ◌^◌, ◌/◌, ◌≤◌, ◌≤ℤ◌, ◌-ℤ◌, ◌*ℤ◌, pos, IfSome, IsTrue};
 ghost use Rattle.std.specs.Int.{int_min, int_max};
 ghost use Rattle.lam_fraction.specs.Fraction.{ℚ, whole};
-ghost use Rattle.lam_number.specs.Encloses.{Encloses};
-ghost use Rattle.lam_stock.specs.Limits.{IsNear, IsStrength};
-ghost use Rattle.lam_stock.specs.PlyLaw.{InPly};
+ghost use Rattle.lam_fraction.specs.numbers.Numbers.{Holds, unit};
+ghost use Rattle.lam_stock.specs.Limits.{AreWithinSixteen, IsStrength, KeepsStrengths};
+ghost use Rattle.lam_stock.specs.PlyLaw.{OnAxis};
 ghost use Rattle.lam_stock.specs.TsaiWu.{RatioAtLeast};
-ghost use Rattle.laminate.specs.ScaledCriterion.{Terms, linear_coefficient, quadratic_coefficient, mixed_coefficient, scaled_stress, terms_of, scaled_of, axis_value, scaled_value, HoldsTerms, HoldsScaled};
-ghost use Rattle.laminate.specs.StrengthRatio.{KeepsStrengths, ply_stress_of};
+ghost use Rattle.laminate.specs.inside.ScaledCriterion.{Terms, linear_coefficient, quadratic_coefficient, mixed_coefficient, scaled_stress, terms_of, scaled_of, axis_value, scaled_value, HoldsTerms, HoldsScaled};
+ghost use Rattle.laminate.specs.inside.StrengthRatio.{ply_stress_of};
 
-use crate::guarded::{difference, product, ratio, square, sum, times, unit};
+use crate::guarded::{difference, product, ratio, square, sum, times, unit_of};
 use crate::ply_stress::PlyStress;
-use crate::wide::wide_product;
+use lam_fraction::machine::wide_product;
 use lam_number::{Enclosure, Sign};
 use lam_stock::Lamina;
 
@@ -45,7 +45,7 @@ struct Utilisation<N> {
 /// The coefficients at a lamina.
 fn coefficients_of<N: Enclosure>(lamina: &Lamina) -> Coefficients<N>
     requires { KeepsStrengths lamina.now }
-    ensures { HoldsTerms N.SCALE N.low_end N.high_end result (terms_of lamina.now) }
+    ensures { HoldsTerms N.numbers result (terms_of lamina.now) }
 {
     Coefficients {
         along: linear(lamina.xt, lamina.xc),
@@ -62,8 +62,8 @@ fn coefficients_of<N: Enclosure>(lamina: &Lamina) -> Coefficients<N>
 fn linear<N: Enclosure>(tension: i64, compression: i64) -> N
     requires tension { IsStrength tension }
     requires compression { IsStrength compression }
-    requires near { IsNear tension compression }
-    ensures { Encloses N.SCALE (N.low_end result) (N.high_end result) (linear_coefficient tension compression) }
+    requires near { AreWithinSixteen tension compression }
+    ensures { Holds N.numbers result (linear_coefficient tension compression) }
 {
     N::of_ratio(
         excess(compression, tension),
@@ -89,8 +89,8 @@ fn times_lesser(factor: i64, a: i64, b: i64) -> i128
 fn quadratic<N: Enclosure>(tension: i64, compression: i64) -> N
     requires tension { IsStrength tension }
     requires compression { IsStrength compression }
-    requires near { IsNear tension compression }
-    ensures { Encloses N.SCALE (N.low_end result) (N.high_end result) (quadratic_coefficient tension compression) }
+    requires near { AreWithinSixteen tension compression }
+    ensures { Holds N.numbers result (quadratic_coefficient tension compression) }
 {
     N::of_ratio(
         i128::from(tension.max(compression)),
@@ -101,7 +101,7 @@ fn quadratic<N: Enclosure>(tension: i64, compression: i64) -> N
 /// The coefficient of the product of both variables: F12 X Y/(8·10¹⁸), with X and Y the greater strengths.
 fn mixed<N: Enclosure>(lamina: &Lamina) -> N
     requires { KeepsStrengths lamina.now }
-    ensures { Encloses N.SCALE (N.low_end result) (N.high_end result) (mixed_coefficient lamina.now) }
+    ensures { Holds N.numbers result (mixed_coefficient lamina.now) }
 {
     N::of_ratio(interaction(lamina), 8_000_000_000_000_000_000)
 }
@@ -120,10 +120,10 @@ fn interaction(lamina: &Lamina) -> i128
 /// A stress times a factor, over 16 times a strength.
 fn over_strength<N: Enclosure>(stress: i64, over: i64, thousandths: u16, strength: i64) -> Option<N>
     ensures { IfSome result (λ z.
-        Encloses N.SCALE (N.low_end z) (N.high_end z) (scaled_stress stress over thousandths strength)) }
+        Holds N.numbers z (scaled_stress stress over thousandths strength)) }
 {
-    let load = times(i128::from(stress), i128::from(thousandths))?;
-    let bearing = times(i128::from(over), i128::from(strength))?;
+    let load = wide_product(stress, i64::from(thousandths));
+    let bearing = wide_product(over, strength);
     ratio(load, times(16, bearing)?)
 }
 
@@ -134,7 +134,7 @@ fn utilisation_of<N: Enclosure>(
     thousandths: u16,
 ) -> Option<Utilisation<N>>
     ensures { IfSome result (λ y.
-        HoldsScaled N.SCALE N.low_end N.high_end y (scaled_of lamina.now stress.now thousandths)) }
+        HoldsScaled N.numbers y (scaled_of lamina.now stress.now thousandths)) }
 {
     let x = lamina.xt.max(lamina.xc);
     let y = lamina.yt.max(lamina.yc);
@@ -148,20 +148,20 @@ fn utilisation_of<N: Enclosure>(
 /// The terms of an axis: a y/16 + b (y/16)².
 fn axis_terms<N: Enclosure>(first: N, second: N, y: N) -> Option<N>
     ensures { IfSome result (λ z. (a b u : ℚ)
-        → Encloses N.SCALE (N.low_end first) (N.high_end first) a
-        → Encloses N.SCALE (N.low_end second) (N.high_end second) b
-        → Encloses N.SCALE (N.low_end y) (N.high_end y) u
-        → Encloses N.SCALE (N.low_end z) (N.high_end z) (axis_value a b u)) }
+        → Holds N.numbers first a
+        → Holds N.numbers second b
+        → Holds N.numbers y u
+        → Holds N.numbers z (axis_value a b u)) }
 {
     sum(product(first, y)?, product(second, square(y)?)?)
 }
 
 /// The value (f - 1)/4096.
 fn value<N: Enclosure>(by: &Coefficients<N>, y: &Utilisation<N>) -> Option<N>
-    ensures { IfSome result (λ z. (k : Terms) (u : InPly)
-        → HoldsTerms N.SCALE N.low_end N.high_end by.now k
-        → HoldsScaled N.SCALE N.low_end N.high_end y.now u
-        → Encloses N.SCALE (N.low_end z) (N.high_end z) (scaled_value k u)) }
+    ensures { IfSome result (λ z. (k : Terms) (u : OnAxis)
+        → HoldsTerms N.numbers by.now k
+        → HoldsScaled N.numbers y.now u
+        → Holds N.numbers z (scaled_value k u)) }
 {
     let along = axis_terms(by.along, by.along_square, y.along)?;
     let across = axis_terms(by.across, by.across_square, y.across)?;
@@ -171,12 +171,11 @@ fn value<N: Enclosure>(by: &Coefficients<N>, y: &Utilisation<N>) -> Option<N>
 }
 
 /// The margin of a verdict: 2⁻³⁶ of U, rounded down.
-fn margin(scale: u32) -> i64
-    requires { scale ≤ 60 }
-    ensures value { result ≡ pos (2 ^ scale / 2 ^ 36) }
+fn margin<N: Enclosure>() -> i64
+    ensures value { result ≡ pos (unit N.numbers / 2 ^ 36) }
     ensures least { pos 0 ≤ℤ result }
 {
-    (unit(scale) >> 36) as i64
+    (unit_of::<N>() >> 36) as i64
 }
 
 /// Whether the strength ratio is at least `thousandths`/1000, with the margin of a verdict.
@@ -187,7 +186,7 @@ fn meets<N: Enclosure>(
     thousandths: u16,
 ) -> bool
     requires strengths { KeepsStrengths lamina.now }
-    requires held { HoldsTerms N.SCALE N.low_end N.high_end by.now (terms_of lamina.now) }
+    requires held { HoldsTerms N.numbers by.now (terms_of lamina.now) }
     ensures { IsTrue result → RatioAtLeast lamina.now (ply_stress_of stress.now) (whole (pos thousandths)) }
 {
     let Some(y) = utilisation_of(lamina, stress, thousandths) else {
@@ -196,7 +195,7 @@ fn meets<N: Enclosure>(
     let Some(value) = value(by, &y) else {
         return false;
     };
-    matches!(value.sign(margin(N::SCALE)), Sign::Below)
+    matches!(value.sign(margin::<N>()), Sign::Below)
 }
 
 /// The strength ratio in thousandths, rounded down, from 0 to 20,000: 0, or a factor that the ply meets.
@@ -227,7 +226,7 @@ mod tests {
     /// The ratio of a mat of 100 MPa, and of `yc` in compression across, under a stress across.
     fn printed_across(across: i64, yc: i64) -> u16
         requires yc { IsStrength yc }
-        requires near { IsNear (pos 100000) yc }
+        requires near { AreWithinSixteen (pos 100000) yc }
     {
         let lamina = Lamina {
             e1: 10_000,

@@ -1,8 +1,7 @@
 //! The job, as far as it is read today: one case of in-plane force resultants.
 
 ghost use Rattle.std.specs.Prelude.{◌≡◌, ◌∷◌, [], map, option_map, codes, IfOk, List, ℕ, IsErrOf, None, Some};
-ghost use Rattle.laminate.specs.Job.{case_of, force, is_among, has_only, job_of, job_of_table, one_item, required, whole, JobNumbers};
-ghost use Rattle.laminate.specs.Read.{numbers};
+ghost use Rattle.laminate.specs.Job.{case_of, force, is_among, has_only, job_of, job_of_table, one_item, required, whole};
 ghost use Rattle.toml.specs.View.{items_view, view, table_view};
 ghost use Rattle.toml.specs.Data.{get_member};
 
@@ -31,7 +30,7 @@ const GREATEST_FORCE: i64 = 1_000_000_000;
 
 /// Reads the job from the bytes of its file.
 pub fn read_job(alloc: Global, bytes: &[u8]) -> Result<Job, JobError>
-    ensures ok { IfOk result (λ j. job_of bytes.now ≡ Some (numbers j)) }
+    ensures ok { IfOk result (λ j. job_of bytes.now ≡ Some j) }
     ensures refused { IsErrOf result JobError.Unbuilt → job_of bytes.now ≡ None }
 {
     match toml::table_from_slice(alloc, bytes) {
@@ -48,7 +47,7 @@ pub fn read_job(alloc: Global, bytes: &[u8]) -> Result<Job, JobError>
 }
 
 fn read_table(table: &Table) -> Option<Job>
-    ensures { option_map numbers result ≡ job_of_table (table_view table.now) }
+    ensures { result ≡ job_of_table (table_view table.now) }
 {
     if !holds_only(table, &["case", "limit", "version"]) {
         return None;
@@ -60,7 +59,7 @@ fn read_table(table: &Table) -> Option<Job>
 
 /// The one case of a list of cases.
 fn read_cases(cases: &[Value]) -> Option<Job>
-    ensures { option_map numbers result ≡ one_item (items_view cases.now) }
+    ensures { result ≡ one_item (items_view cases.now) }
 {
     match cases {
         [only] => read_case(only.as_table()?),
@@ -69,7 +68,7 @@ fn read_cases(cases: &[Value]) -> Option<Job>
 }
 
 fn read_case(table: &Table) -> Option<Job>
-    ensures { option_map numbers result ≡ case_of (table_view table.now) }
+    ensures { result ≡ case_of (table_view table.now) }
 {
     if !holds_only(table, &["factor", "kind", "nx", "nxy", "ny"]) {
         return None;

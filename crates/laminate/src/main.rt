@@ -3,18 +3,24 @@
 //! The words, the files and the answer's way through them are in `top`.
 #![tactic(auto)]
 
-mod analysis;
-mod criterion;
-mod fault;
-mod guarded;
-mod job;
-mod ply_stress;
-mod status;
-mod steps;
-mod top;
-mod turning;
-mod wide;
+// What the words ask for.
 mod words;
+// How a run ends, and why it has no answer.
+mod fault;
+mod status;
+// The job's reader, and both files of an order, taken and read.
+mod input;
+mod job;
+// The strength of one ply under the stresses in its axes.
+mod criterion;
+mod guarded;
+mod ply_stress;
+mod turning;
+// The modes, and the text of an analysis.
+mod analysis;
+mod modes;
+// The top call.
+mod top;
 
 use crate::status::Status;
 use lam_outside::{HostFiles, HostSink};

@@ -17,6 +17,7 @@ pub enum Status {
     WriteFault,
     /// Memory ran out; nothing is written.
     Memory,
-    /// The report isn't in the grammar, or the checker refuses it; the line that says so is written.
+    /// The report isn't in the grammar, or the checker refuses it; the line that says so is
+    /// written.
     ReportRefused,
 }

@@ -1,15 +1,15 @@
 //! The stress of a wall, turned to the axes of a ply (Jones, stress transformation).
 
 ghost use Rattle.std.specs.Prelude.{◌≡◌, ◌≤◌, pos, ◌*ℤ◌, ◌<ℤ◌, ◌≤ℤ◌, unsigned_abs};
-ghost use Rattle.laminate.specs.StrengthRatio.{ply_stress_of};
+ghost use Rattle.laminate.specs.inside.StrengthRatio.{ply_stress_of};
 ghost use Rattle.laminate.specs.Turning as spec;
 ghost use Rattle.laminate.specs.Turning.{across_of, along_of, shear_of};
 
 use crate::ply_stress::PlyStress;
 use lam_direction::Direction;
 
-/// The stress of a wall in the axes of a ply of that direction: the wall's forces in N/m over its thickness in
-/// µm, turned.
+/// The stress of a wall in the axes of a ply of that direction: the wall's forces in N/m over its
+/// thickness in µm, transformed to ply axes.
 pub fn stress_in_ply(dir: &Direction, x: i64, y: i64, s: i64, thickness: i64) -> PlyStress
     requires x { unsigned_abs x ≤ 1000000000 }
     requires y { unsigned_abs y ≤ 1000000000 }
@@ -68,8 +68,7 @@ fn part(a: i64, b: i64, amount: i64) -> i64
     requires first { unsigned_abs a ≤ 1000 }
     requires second { unsigned_abs b ≤ 1000 }
     requires amount { unsigned_abs amount ≤ 1000000000 }
-    ensures value { result ≡ (a *ℤ b) *ℤ amount }
-    ensures small { unsigned_abs result ≤ 1000000000000000 }
+    ensures { result ≡ (a *ℤ b) *ℤ amount }
 {
     a * b * amount
 }

@@ -2,7 +2,7 @@
 
 ghost use Rattle.std.specs.Prelude.{◌≡◌, IsTrue, map, option_map, string_bytes};
 ghost use Rattle.laminate.specs.Reading.{is_dashed, reading, OrderWords};
-ghost use Rattle.laminate.specs.Spelled.{spelled};
+ghost use Rattle.laminate.specs.inside.Spelled.{spelled};
 
 /// What the words ask for: the analysis of a schedule under a job, with the plies of a catalogue.
 #[derive(Clone, Copy)]

@@ -1,6 +1,6 @@
 // Which items are alike, and which are mirror images of each other.
 
-use crate::{ItemNo, Stack, read_stock};
+use crate::{ItemNo, Stack, StockCause, StockError, StockFault, read_stock};
 use std::test::Fail;
 
 #[test]
@@ -47,4 +47,17 @@ fn a_stack_gives_back_the_last_item(rt: HostRuntime) {
         (Some(ItemNo(3)), Some(ItemNo(7)), None)
     );
     assert_eq!(rt; copy.items(), [ItemNo(7), ItemNo(3)].as_slice());
+}
+
+#[test]
+fn errors_print_their_names(rt: HostRuntime) -> Result<(), Fail> {
+    let alloc = rt.alloc();
+    let refused = StockError::Refused(StockFault {
+        row: 2,
+        cause: StockCause::Name,
+    });
+    assert_eq!(rt; format!(in alloc; "{refused}")?.as_str(), "Refused");
+    let memory = StockError::Memory;
+    assert_eq!(rt; format!(in alloc; "{memory}")?.as_str(), "Memory");
+    Ok(())
 }

@@ -2,7 +2,8 @@
 
 ghost use Rattle.std.specs.Prelude.{◌<◌, ◌≤◌, length};
 
-use crate::{Wall, assemble};
+use crate::{Wall, assemble, assemble_by};
+use lam_lamina::Stiffnesses;
 use lam_number::{Enclosure, Fix};
 use lam_stock::{ItemNo, Stack, Stock, read_stock};
 use std::alloc::Global;
@@ -70,5 +71,20 @@ fn the_thickest_wall_and_the_thinnest_have_the_same_matrices(rt: HostRuntime) ->
         assert!(rt; holds(wall.b.yy, 0, 0));
         assert!(rt; holds(wall.d.yy, 29_320_310_074_026_666, 29_320_310_074_026_667));
     }
+    Ok(())
+}
+
+#[test]
+fn a_table_serves_many_walls(rt: HostRuntime) -> Result<(), Fail> {
+    let stock = read_stock(rt.alloc(), CATALOGUE.as_bytes())?;
+    let table: Stiffnesses<Fix<60>> = Stiffnesses::of(&stock);
+    let mut plies = Stack::new(rt.alloc());
+    assert_eq!(rt; stock.items().len(), 4);
+    plies.push(ItemNo(0));
+    let single = assemble_by(&table, &stock, &plies);
+    assert!(rt; holds(single.a.yy, 10_000 * FINE, 10_000 * FINE));
+    plies.push(ItemNo(1));
+    let double = assemble_by(&table, &stock, &plies);
+    assert!(rt; holds(double.b.yy, 2_500 * FINE, 2_500 * FINE));
     Ok(())
 }

@@ -1,3 +1,5 @@
+ghost use Rattle.std.specs.Prelude.{◌≡◌, [], length};
+
 use super::*;
 use lam_outside::{MemoryFiles, MemorySink};
 use std::test::Fail;
@@ -29,7 +31,8 @@ fn job_with(alloc: Global, forces: &str) -> Result<String, AllocError> {
     )
 }
 
-/// The status, and what is written into an ample sink, of the words over a job and a catalogue in memory.
+/// The status, and what is written into an ample sink, of the words over a job and a catalogue in
+/// memory.
 fn answer_to(
     alloc: Global,
     texts: &[&str],
@@ -161,6 +164,23 @@ fn each_fault_has_its_line_and_its_status(rt: HostRuntime) -> Result<(), Fail> {
 const USAGE: &str =
     "usage: laminate design JOB CATALOGUE | analyse JOB CATALOGUE SCHEDULE | check JOB CATALOGUE REPORT | sample N; options of design and sample: --guide cheapest|thickest|learner, --nodes N\n";
 
+/// A run over a sink in memory of which no call is to fail. What is said of its write fault
+/// follows from the clauses of `run` and of the sink alone.
+fn run_steadily(
+    alloc: Global,
+    words: &[String],
+    files: &mut MemoryFiles,
+    sink: &mut MemorySink,
+) -> Status
+    requires { sink.old.calls.failing ≡ [] }
+    ensures room { sink.new.room ≡ sink.old.room }
+    ensures full { result ≡ Status.WriteFault → length sink.new.written ≡ sink.new.room }
+{
+    let status = run(alloc, words, files, sink);
+    let _after = sink.written();
+    status
+}
+
 #[test]
 fn a_write_fault_leaves_a_prefix(rt: HostRuntime) -> Result<(), Fail> {
     let alloc = rt.alloc();
@@ -178,7 +198,7 @@ fn a_write_fault_leaves_a_prefix(rt: HostRuntime) -> Result<(), Fail> {
     assert_eq!(rt; failing.written(), b"lam".as_slice());
 
     let mut full = MemorySink::new(alloc, 10, 1000)?;
-    let status = run(alloc, words.as_slice(), &mut files, &mut full);
+    let status = run_steadily(alloc, words.as_slice(), &mut files, &mut full);
     assert_eq!(rt; status, Status::WriteFault);
     assert_eq!(rt; full.written(), b"laminate a".as_slice());
     Ok(())

@@ -1,66 +1,54 @@
-use Rattle.lam_fraction.proofs.Rationals.{weaken}
-use Rattle.lam_stock.specs.PlyLaw.{reduced_11, reduced_12, reduced_22}
+use Rattle.std.proofs.Common.{rules, subst, subst₂, sym, ◌≤◌, pos, ◌<ℤ◌}
+use Rattle.std.specs.Prelude.{unsigned_abs}
+use Rattle.lam_lamina.specs.Held.{HoldsModuli, NarrowModuli}
 use Rattle.lam_lamina.specs.Stiffness.{moduli_over}
-use Rattle.lam_lamina.proofs.Moduli.{along_stiff, across_stiff, coupled_not_negative}
-use Rattle.lam_lamina.proofs.Bounds.{elastic, q11-at_most, q12-within, q22-at_most}
-use Rattle.lam_lamina.proofs.Casts.{same-as, size-same, size-positive, modulus-room, modulus-held, shear-positive, shear-room, shear-held}
+use Rattle.lam_lamina.specs.inside.Known.{ReachModuli}
+use Rattle.lam_lamina.proofs.Bounds.{scale_positive}
+use Rattle.lam_lamina.proofs.ReducedKnown.{stored-as, rest-stored, scale-stored, denominator-stored, denominator_fits, shear-stored, denominator_positive, q11-room, q12-room, q22-room, q66-room, held-reduced, narrow-reduced}
+use Rattle.lam_lamina.proofs.StiffnessKnown.{reach-reduced}
 use Rattle.lam_lamina.proofs.lamina.reduced.Goals as goal
 
+pub product-denominator-requires : goal.product-denominator-requires
+product-denominator-requires g c = denominator_fits c.requires (rest-stored c.requires c.poisson_rest.ensures.value)
+
 pub modulus-requires-clause-positive : goal.modulus-requires-clause-positive
-modulus-requires-clause-positive g c =
-    let size = size-same c.requires c.poisson_rest.result c.large_product-size.result c.poisson_rest.ensures.value c.large_product-size.ensures.value c.large_product-size.ensures.small in
-    size-positive c.requires _ size
+modulus-requires-clause-positive g c = subst (λ x. pos 0 <ℤ x) (sym (denominator-stored c.requires c.product-denominator.ensures (rest-stored c.requires c.poisson_rest.ensures.value))) (denominator_positive c.requires)
 
 pub modulus-requires-clause-small : goal.modulus-requires-clause-small
-unfolding reduced_11
 modulus-requires-clause-small g c =
-    let l = c.args.lamina.now in
-    let size = size-same c.requires c.poisson_rest.result c.large_product-size.result c.poisson_rest.ensures.value c.large_product-size.ensures.value c.large_product-size.ensures.small in
-    let num = same-as (record { sfits = c.along.type_inv }) c.along.ensures in
-    modulus-room c.requires _ _ _ num size (weaken (along_stiff l (elastic c.requires))) (q11-at_most c.requires)
+    let num = stored-as (record { sfits = c.q11_numerator.type_inv }) c.q11_numerator.ensures in
+    subst₂ (λ x y. unsigned_abs x ≤ unsigned_abs y) (sym num) (sym (denominator-stored c.requires c.product-denominator.ensures (rest-stored c.requires c.poisson_rest.ensures.value))) (q11-room c.requires)
 
 pub modulus-requires-2-clause-positive : goal.modulus-requires-2-clause-positive
-modulus-requires-2-clause-positive g c =
-    let size = size-same c.requires c.poisson_rest.result c.large_product-size.result c.poisson_rest.ensures.value c.large_product-size.ensures.value c.large_product-size.ensures.small in
-    size-positive c.requires _ size
+modulus-requires-2-clause-positive g c = subst (λ x. pos 0 <ℤ x) (sym (denominator-stored c.requires c.product-denominator.ensures (rest-stored c.requires c.poisson_rest.ensures.value))) (denominator_positive c.requires)
 
 pub modulus-requires-2-clause-small : goal.modulus-requires-2-clause-small
-unfolding reduced_12
 modulus-requires-2-clause-small g c =
-    let l = c.args.lamina.now in
-    let size = size-same c.requires c.poisson_rest.result c.large_product-size.result c.poisson_rest.ensures.value c.large_product-size.ensures.value c.large_product-size.ensures.small in
-    let num = same-as (record { sfits = c.coupled.type_inv }) c.coupled.ensures in
-    modulus-room c.requires _ _ _ num size (coupled_not_negative l (elastic c.requires) c.requires.range.least_n12) (q12-within c.requires)
+    let num = stored-as (record { sfits = c.q12_numerator.type_inv }) c.q12_numerator.ensures in
+    subst₂ (λ x y. unsigned_abs x ≤ unsigned_abs y) (sym num) (sym (denominator-stored c.requires c.product-denominator.ensures (rest-stored c.requires c.poisson_rest.ensures.value))) (q12-room c.requires)
 
 pub modulus-requires-3-clause-positive : goal.modulus-requires-3-clause-positive
-modulus-requires-3-clause-positive g c =
-    let size = size-same c.requires c.poisson_rest.result c.large_product-size.result c.poisson_rest.ensures.value c.large_product-size.ensures.value c.large_product-size.ensures.small in
-    size-positive c.requires _ size
+modulus-requires-3-clause-positive g c = subst (λ x. pos 0 <ℤ x) (sym (denominator-stored c.requires c.product-denominator.ensures (rest-stored c.requires c.poisson_rest.ensures.value))) (denominator_positive c.requires)
 
 pub modulus-requires-3-clause-small : goal.modulus-requires-3-clause-small
-unfolding reduced_22
 modulus-requires-3-clause-small g c =
-    let l = c.args.lamina.now in
-    let size = size-same c.requires c.poisson_rest.result c.large_product-size.result c.poisson_rest.ensures.value c.large_product-size.ensures.value c.large_product-size.ensures.small in
-    let num = same-as (record { sfits = c.across.type_inv }) c.across.ensures in
-    modulus-room c.requires _ _ _ num size (weaken (across_stiff l (elastic c.requires))) (q22-at_most c.requires)
+    let num = stored-as (record { sfits = c.q22_numerator.type_inv }) c.q22_numerator.ensures in
+    subst₂ (λ x y. unsigned_abs x ≤ unsigned_abs y) (sym num) (sym (denominator-stored c.requires c.product-denominator.ensures (rest-stored c.requires c.poisson_rest.ensures.value))) (q22-room c.requires)
 
 pub modulus-requires-4-clause-positive : goal.modulus-requires-4-clause-positive
-modulus-requires-4-clause-positive g c = shear-positive c.requires
+modulus-requires-4-clause-positive g c = subst (λ x. pos 0 <ℤ x) (sym (scale-stored c.requires)) (scale_positive c.requires)
 
 pub modulus-requires-4-clause-small : goal.modulus-requires-4-clause-small
-modulus-requires-4-clause-small g c = shear-room c.requires
+modulus-requires-4-clause-small g c = subst₂ (λ x y. unsigned_abs x ≤ unsigned_abs y) (sym (shear-stored c.requires)) (sym (scale-stored c.requires)) (q66-room c.requires)
+
+pub returns-clause-value : goal.returns-clause-value
+returns-clause-value g c = search rules
 
 pub returns-clause-held : goal.returns-clause-held
-unfolding moduli_over reduced_11 reduced_12 reduced_22
-returns-clause-held g c =
-    let size = size-same c.requires c.poisson_rest.result c.large_product-size.result c.poisson_rest.ensures.value c.large_product-size.ensures.value c.large_product-size.ensures.small in
-    let along = same-as (record { sfits = c.along.type_inv }) c.along.ensures in
-    let coupled = same-as (record { sfits = c.coupled.type_inv }) c.coupled.ensures in
-    let across = same-as (record { sfits = c.across.type_inv }) c.across.ensures in
-    record {
-      q11 = modulus-held c.requires _ _ _ _ _ _ along size c.modulus.ensures.held;
-      q12 = modulus-held c.requires _ _ _ _ _ _ coupled size c.modulus-2.ensures.held;
-      q22 = modulus-held c.requires _ _ _ _ _ _ across size c.modulus-3.ensures.held;
-      q66 = shear-held c.requires _ _ _ c.modulus-4.ensures.held;
-    }
+returns-clause-held g c = subst (λ r. HoldsModuli g.N.Enclosure.numbers r (moduli_over c.args.scale.now.q0 c.args.lamina.now)) (sym (returns-clause-value g c)) (held-reduced c.requires g.met.N.Enclosure.laws)
+
+pub returns-clause-narrow : goal.returns-clause-narrow
+returns-clause-narrow g c = subst (NarrowModuli 1 g.N.Enclosure.numbers) (sym (returns-clause-value g c)) (narrow-reduced c.requires g.met.N.Enclosure.laws)
+
+pub returns-clause-reach : goal.returns-clause-reach
+returns-clause-reach g c = subst (ReachModuli g.N.Enclosure.numbers) (sym (returns-clause-value g c)) (reach-reduced g.met.N.Enclosure.laws c.requires)

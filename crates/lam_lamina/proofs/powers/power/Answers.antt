@@ -1,14 +1,11 @@
-use Rattle.std.proofs.Common.{rules, to_z, of_z}
+use Rattle.std.proofs.Common.{◌≡◌, rules, ap, ◌*ℤ◌, to_z, of_z, arith}
 use Rattle.std.specs.Int.{w128}
-use Rattle.lam_lamina.proofs.Fourths.{ratio-room, ratio-held}
+use Rattle.std.specs.Prelude.{unsigned_abs}
+use Rattle.lam_lamina.proofs.Fourths.{power-size}
 use Rattle.lam_lamina.proofs.powers.power.Goals as goal
 
 pub of_ratio-requires-clause-room : goal.of_ratio-requires-clause-room
 of_ratio-requires-clause-room g c =
-    ratio-room c.args.first c.args.second c.args.size (to_z w128 (of_z w128 c.product.result)) (to_z w128 (of_z w128 c.product-2.result))
-    (search rules) (search rules) c.requires.first c.requires.second
-
-pub returns-clause-held : goal.returns-clause-held
-returns-clause-held g c =
-    ratio-held _ _ _ c.args.first c.args.second c.args.size (to_z w128 (of_z w128 c.product.result)) (to_z w128 (of_z w128 c.product-2.result)) c.requires.least
-    (search rules) (search rules) c.of_ratio.ensures.held
+    let num : to_z w128 (of_z w128 c.wide_product.result) ≡ c.args.first *ℤ c.args.second = search rules in
+    let den : to_z w128 (of_z w128 c.wide_product-2.result) ≡ c.args.size *ℤ c.args.size = search rules in
+    omega (arith, ap unsigned_abs num, ap unsigned_abs den, power-size c.args.first c.args.second c.args.size c.requires.first c.requires.second)

@@ -1,6 +1,6 @@
 use Rattle.std.proofs.Common.{sym, subst, FitsSigned}
 use Rattle.std.specs.Int.{w64}
-use Rattle.lam_number.specs.Rounding.{ceil_over}
+use Rattle.lam_fraction.specs.numbers.Rounding.{ceil_over}
 use Rattle.lam_number.proofs.Casts.{widened}
 use Rattle.lam_number.proofs.Rounded.{ceil_fits}
 use Rattle.lam_number.proofs.arithmetic.end_ceil.Goals as goal

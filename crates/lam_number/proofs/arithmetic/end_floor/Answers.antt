@@ -1,6 +1,6 @@
 use Rattle.std.proofs.Common.{sym, subst, FitsSigned}
 use Rattle.std.specs.Int.{w64}
-use Rattle.lam_number.specs.Rounding.{floor_over}
+use Rattle.lam_fraction.specs.numbers.Rounding.{floor_over}
 use Rattle.lam_number.proofs.Casts.{widened}
 use Rattle.lam_number.proofs.Rounded.{floor_fits}
 use Rattle.lam_number.proofs.arithmetic.end_floor.Goals as goal

@@ -3,7 +3,7 @@ use Rattle.std.proofs.lemmas.Int.{ints}
 use Rattle.std.proofs.lemmas.Nat.{pow_pos}
 use Rattle.lam_number.proofs.Casts.{narrows, reads, lowered}
 use Rattle.lam_number.proofs.Sizes.{unit_square, units_fit, units_over}
-use Rattle.lam_number.proofs.Rounded.{floor-size}
+use Rattle.lam_number.proofs.Rounded.{floor-within}
 use Rattle.lam_number.proofs.arithmetic.low_within.Goals as goal
 
 pub overflow_cast-spread : goal.overflow_cast-spread
@@ -15,7 +15,7 @@ overflow_sub-centre c = omega (arith, ints, unit_square c.args.scale c.requires.
 pub narrow-requires : goal.narrow-requires
 narrow-requires c =
     narrows _ _ (record { sfits = c.shift_down.type_inv }) (lowered _ _ _ _ _ c.ranges.centre c.requires.scale.1 c.requires.room c.shift_down.ensures)
-    (units_fit _ c.args.scale c.requires.scale.1 (floor-size _ _ _ (pow_pos _) (units_over _ c.args.scale (omega (arith, ints, c.requires.room)))))
+    (units_fit _ c.args.scale c.requires.scale.1 (floor-within _ _ _ (pow_pos _) (units_over _ c.args.scale (omega (arith, ints, c.requires.room)))))
 
 pub returns : goal.returns
 returns c =

@@ -2,6 +2,7 @@ use Rattle.std.proofs.Common.{arith, ap, ◌^◌, unsigned_abs}
 use Rattle.lam_number.proofs.Casts.{read_wide, product_low_read, product_high_read, order_as}
 use Rattle.lam_number.proofs.Sizes.{product_room}
 use Rattle.lam_number.proofs.Rounded.{product_ordered}
+use Rattle.lam_number.proofs.FixFacts.{fix_is}
 use Rattle.lam_number.proofs.arithmetic.multiple.Goals as goal
 
 pub low_within-requires-clause-room : goal.low_within-requires-clause-room
@@ -18,15 +19,13 @@ high_within-requires-clause-room g c =
     let e = read_wide _ _ (record { sfits = c.centre_of_product-centre.type_inv }) c.centre_of_product-centre.ensures in
     omega (arith, ap unsigned_abs e, c.spread_of_product-spread.ensures, product_room x.low x.high y.low y.high (2 ^ g.row.S) x.ordered y.ordered c.requires.room)
 
-pub returns-clause-low : goal.returns-clause-low
-returns-clause-low g c =
-    product_low_read _ _ _ _ _ _ _ _ (record { sfits = c.centre_of_product-centre.type_inv }) (record { sfits = c.low_within.type_inv })
-    c.centre_of_product-centre.ensures c.spread_of_product-spread.ensures c.low_within.ensures
-
-pub returns-clause-high : goal.returns-clause-high
-returns-clause-high g c =
-    product_high_read _ _ _ _ _ _ _ _ (record { sfits = c.centre_of_product-centre.type_inv }) (record { sfits = c.high_within.type_inv })
-    c.centre_of_product-centre.ensures c.spread_of_product-spread.ensures c.high_within.ensures
+pub returns : goal.returns
+returns g c =
+    fix_is g.row.S _ _ _
+    (product_low_read _ _ _ _ _ _ _ _ (record { sfits = c.centre_of_product-centre.type_inv }) (record { sfits = c.low_within.type_inv })
+    c.centre_of_product-centre.ensures c.spread_of_product-spread.ensures c.low_within.ensures)
+    (product_high_read _ _ _ _ _ _ _ _ (record { sfits = c.centre_of_product-centre.type_inv }) (record { sfits = c.high_within.type_inv })
+    c.centre_of_product-centre.ensures c.spread_of_product-spread.ensures c.high_within.ensures)
 
 pub invariant_of-result : goal.invariant_of-result
 invariant_of-result g c =

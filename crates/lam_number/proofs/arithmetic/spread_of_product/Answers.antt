@@ -1,6 +1,6 @@
 use Rattle.std.proofs.Common.{rules, ◌∙◌, FitsSigned, ◌+ℤ◌, unsigned_abs, arith}
 use Rattle.std.specs.Int.{w64}
-use Rattle.lam_number.specs.Ends.{width}
+use Rattle.lam_fraction.specs.numbers.Ends.{width}
 use Rattle.lam_number.proofs.Casts.{two_ends}
 use Rattle.lam_number.proofs.Sizes.{spread_room, spread_is}
 use Rattle.lam_number.proofs.arithmetic.spread_of_product.Goals as goal

@@ -2,7 +2,9 @@ use Rattle.std.proofs.Common.{rules, ◌*◌, ◌≤◌, ◌^◌, FitsSigned, sy
 use Rattle.std.specs.Int.{w64}
 use Rattle.std.proofs.lemmas.Int.{ints}
 use Rattle.lam_number.proofs.Casts.{two_ends}
-use Rattle.lam_number.proofs.Sizes.{low-reach, high-reach, times_room}
+use Rattle.lam_fraction.proofs.numbers.Sizes.{low-reach, high-reach}
+use Rattle.lam_number.proofs.Sizes.{times_room}
+use Rattle.lam_number.proofs.FixFacts.{fix_is}
 use Rattle.lam_number.proofs.arithmetic.whole_multiple.Goals as goal
 
 pub end_times-from_low-requires-clause-room : goal.end_times-from_low-requires-clause-room
@@ -21,3 +23,6 @@ end_times-from_high-requires-clause-room g c =
 
 pub invariant_of-result : goal.invariant_of-result
 invariant_of-result g c = omega (arith, ints, c.min.ensures.self_bound, c.max.ensures.self_bound)
+
+pub returns : goal.returns
+returns g c = fix_is g.row.S _ _ _ (search (rules, c)) (search (rules, c))

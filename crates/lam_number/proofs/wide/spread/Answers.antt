@@ -1,6 +1,6 @@
 use Rattle.std.proofs.Common.{arith}
 use Rattle.std.proofs.lemmas.Int.{ints}
-use Rattle.lam_number.specs.Ends.{width}
+use Rattle.lam_fraction.specs.numbers.Ends.{width}
 use Rattle.lam_number.proofs.wide.spread.Goals as goal
 
 pub returns-clause-value : goal.returns-clause-value

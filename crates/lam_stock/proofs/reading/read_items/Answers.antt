@@ -2,9 +2,10 @@ use Rattle.std.proofs.Common.{◌≡◌, length, length-append, sym, ap, ◌∙�
 use Rattle.std.proofs.lemmas.List.Elements.{All-push}
 use Rattle.csv.specs.Records.{fields_of}
 use Rattle.lam_stock.specs.Catalogue.{columns_of, ended, item_of}
-use Rattle.lam_stock.specs.Rows.{rows_of}
+use Rattle.lam_stock.specs.inside.Rows.{rows_of}
 use Rattle.lam_stock.specs.Stock.{WithinLimits}
 use Rattle.lam_stock.proofs.Meaning.{gives-refused, gives-same, more-items, no-more-items, refused-item, took, took-none}
+use Rattle.lam_stock.proofs.Names.{item-names}
 use Rattle.lam_stock.proofs.reading.read_items.Goals as goal
 
 pub loop-items-preserved : goal.loop-items-preserved
@@ -21,6 +22,7 @@ loop-items-preserved c =
       reader = c.in_ok-next_row.ensures.reader;
       few = rw (items, length-append) (omega (arith, room, ap length c.deref.ensures.value));
       limits = rw items (All-push WithinLimits _ _ c.loop-items.invariant.limits c.in-Ok.ensures.limits);
+      names = rw items (item-names earlier (columns_of row) c.in-Ok.item c.loop-items.invariant.names reads);
       meaning = sym (more-items earlier c.keep.new.items.items old new row c.in-Ok.item left reads items) ∙ c.loop-items.invariant.meaning;
     }
 

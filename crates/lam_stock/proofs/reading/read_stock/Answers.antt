@@ -3,7 +3,7 @@ use Rattle.std.proofs.lemmas.Bool.Decides.{same_from_decides}
 use Rattle.std.proofs.lemmas.Slice.Eq.{bytes_eq-Decides, slice_eq-Decides}
 use Rattle.csv.specs.Records.{fields_of}
 use Rattle.lam_stock.specs.Catalogue.{catalogue_of, columns_of, is_header}
-use Rattle.lam_stock.specs.Rows.{rows_of}
+use Rattle.lam_stock.specs.inside.Rows.{rows_of}
 use Rattle.lam_stock.proofs.Meaning.{gives-refused, no-header, took}
 use Rattle.lam_stock.proofs.reading.read_stock.Goals as goal
 

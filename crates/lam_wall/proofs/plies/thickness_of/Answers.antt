@@ -1,6 +1,6 @@
 use Rattle.std.proofs.Common.{sym, ◌∙◌, ap, ◌+ℤ◌, arith, get_or, to_z, w64, ℤ}
-use Rattle.lam_wall.proofs.Listed.{thickness-more}
-use Rattle.lam_wall.proofs.ThicknessSteps.{thickness-step}
+use Rattle.lam_job.proofs.Listed.{thickness-more}
+use Rattle.lam_job.proofs.ThicknessSteps.{thickness-step}
 use Rattle.lam_wall.proofs.plies.thickness_of.Goals as goal
 
 pub loop-ply-preserved : goal.loop-ply-preserved

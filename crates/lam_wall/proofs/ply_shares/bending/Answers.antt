@@ -1,42 +1,50 @@
-use Rattle.std.proofs.Common.{rules, ◌≡◌, subst, ap₂, w64, SFits}
-use Rattle.lam_fraction.specs.Fraction.{fraction}
-use Rattle.lam_number.specs.Encloses.{Encloses}
-use Rattle.lam_lamina.proofs.Casts.{machine}
-use Rattle.lam_wall.proofs.Moments.{bending-numerator, bending-denominator, bending-positive, bending-small}
-use Rattle.lam_wall.proofs.ShareParts.{bending-part}
+use Rattle.std.proofs.Common.{◌≡◌, refl, sym, ◌∙◌, ap₂, subst, pos, ◌+ℤ◌, ◌*ℤ◌}
+use Rattle.lam_fraction.proofs.numbers.Machine.{sizes, stored-128, fits_in_128, is_exact}
+use Rattle.lam_wall.specs.inside.Parts.{IsShort}
+use Rattle.lam_wall.proofs.SharesKnown.{bending-share, share-room-at, short-share, thick-size, inner-size, outer-size, wall-size}
 use Rattle.lam_wall.proofs.ply_shares.bending.Goals as goal
 
-pub share-requires-clause-positive : goal.share-requires-clause-positive
-share-requires-clause-positive g c =
-    let t : machine c.args.item.now.lamina.t ≡ c.args.item.now.lamina.t = search rules in
-    let a : machine c.args.inner ≡ c.args.inner = search rules in
-    let b : machine c.args.outer ≡ c.args.outer = search rules in
-    let h : machine c.args.h ≡ c.args.h = search rules in
-    let fr : SFits w64 c.second_moment.result = record { sfits = c.second_moment.type_inv } in
-    let fs : SFits w64 c.three_cubes.result = record { sfits = c.three_cubes.type_inv } in
-    let den = bending-denominator c.requires fr fs h t a b c.three_cubes.ensures in
-    bending-positive c.requires fr fs h t a b den
+pub overflow_add-squares-2 : goal.overflow_add-squares-2
+overflow_add-squares-2 g c = fits_in_128 (search (sizes, inner-size c.requires, outer-size c.requires, c) depth 30 fits 9000) refl
 
-pub share-requires-clause-small : goal.share-requires-clause-small
-share-requires-clause-small g c =
-    let t : machine c.args.item.now.lamina.t ≡ c.args.item.now.lamina.t = search rules in
-    let a : machine c.args.inner ≡ c.args.inner = search rules in
-    let b : machine c.args.outer ≡ c.args.outer = search rules in
-    let h : machine c.args.h ≡ c.args.h = search rules in
-    let fr : SFits w64 c.second_moment.result = record { sfits = c.second_moment.type_inv } in
-    let fs : SFits w64 c.three_cubes.result = record { sfits = c.three_cubes.type_inv } in
-    let num = bending-numerator c.requires fr fs h t a b c.second_moment.ensures in
-    let den = bending-denominator c.requires fr fs h t a b c.three_cubes.ensures in
-    bending-small c.requires fr fs h t a b num den
+pub overflow_mul-from : goal.overflow_mul-from
+overflow_mul-from g c = fits_in_128 (search (sizes, thick-size c.requires, inner-size c.requires, outer-size c.requires, c) depth 30 fits 9000) refl
 
-pub returns-clause-known : goal.returns-clause-known
-returns-clause-known g c =
-    let t : machine c.args.item.now.lamina.t ≡ c.args.item.now.lamina.t = search rules in
-    let a : machine c.args.inner ≡ c.args.inner = search rules in
-    let b : machine c.args.outer ≡ c.args.outer = search rules in
-    let h : machine c.args.h ≡ c.args.h = search rules in
-    let fr : SFits w64 c.second_moment.result = record { sfits = c.second_moment.type_inv } in
-    let fs : SFits w64 c.three_cubes.result = record { sfits = c.three_cubes.type_inv } in
-    let num = bending-numerator c.requires fr fs h t a b c.second_moment.ensures in
-    let den = bending-denominator c.requires fr fs h t a b c.three_cubes.ensures in
-    bending-part c.requires _ _ _ _ (subst (Encloses _ _ _) (ap₂ fraction num den) c.share.ensures.held) c.share.ensures.narrow
+pub overflow_mul-from-2 : goal.overflow_mul-from-2
+overflow_mul-from-2 g c = fits_in_128 (search (sizes, wall-size c.requires, c) depth 30 fits 9000) refl
+
+pub overflow_mul-from-3 : goal.overflow_mul-from-3
+overflow_mul-from-3 g c = fits_in_128 (search (sizes, wall-size c.requires, c) depth 30 fits 9000) refl
+
+pub of_ratio-requires-clause-positive : goal.of_ratio-requires-clause-positive
+of_ratio-requires-clause-positive g c =
+    let num : stored-128 (stored-128 c.from.result *ℤ stored-128 (stored-128 (stored-128 c.wide_product.result +ℤ stored-128 c.wide_product-2.result) +ℤ stored-128 c.wide_product-3.result)) ≡ c.args.item.now.lamina.t *ℤ (c.args.inner *ℤ c.args.inner +ℤ c.args.inner *ℤ c.args.outer +ℤ c.args.outer *ℤ c.args.outer) = is_exact (search (sizes, thick-size c.requires, inner-size c.requires, outer-size c.requires, c) depth 30 fits 9000) refl in
+    let den : stored-128 (pos 3 *ℤ stored-128 (stored-128 c.from-2.result *ℤ stored-128 c.wide_product-4.result)) ≡ pos 3 *ℤ (c.args.h *ℤ (c.args.h *ℤ c.args.h)) = is_exact (search (sizes, wall-size c.requires, c) depth 30 fits 9000) refl in
+    (share-room-at (bending-share c.requires) num den).positive
+
+pub of_ratio-requires-clause-den : goal.of_ratio-requires-clause-den
+of_ratio-requires-clause-den g c =
+    let num : stored-128 (stored-128 c.from.result *ℤ stored-128 (stored-128 (stored-128 c.wide_product.result +ℤ stored-128 c.wide_product-2.result) +ℤ stored-128 c.wide_product-3.result)) ≡ c.args.item.now.lamina.t *ℤ (c.args.inner *ℤ c.args.inner +ℤ c.args.inner *ℤ c.args.outer +ℤ c.args.outer *ℤ c.args.outer) = is_exact (search (sizes, thick-size c.requires, inner-size c.requires, outer-size c.requires, c) depth 30 fits 9000) refl in
+    let den : stored-128 (pos 3 *ℤ stored-128 (stored-128 c.from-2.result *ℤ stored-128 c.wide_product-4.result)) ≡ pos 3 *ℤ (c.args.h *ℤ (c.args.h *ℤ c.args.h)) = is_exact (search (sizes, wall-size c.requires, c) depth 30 fits 9000) refl in
+    (share-room-at (bending-share c.requires) num den).den
+
+pub of_ratio-requires-clause-num : goal.of_ratio-requires-clause-num
+of_ratio-requires-clause-num g c =
+    let num : stored-128 (stored-128 c.from.result *ℤ stored-128 (stored-128 (stored-128 c.wide_product.result +ℤ stored-128 c.wide_product-2.result) +ℤ stored-128 c.wide_product-3.result)) ≡ c.args.item.now.lamina.t *ℤ (c.args.inner *ℤ c.args.inner +ℤ c.args.inner *ℤ c.args.outer +ℤ c.args.outer *ℤ c.args.outer) = is_exact (search (sizes, thick-size c.requires, inner-size c.requires, outer-size c.requires, c) depth 30 fits 9000) refl in
+    let den : stored-128 (pos 3 *ℤ stored-128 (stored-128 c.from-2.result *ℤ stored-128 c.wide_product-4.result)) ≡ pos 3 *ℤ (c.args.h *ℤ (c.args.h *ℤ c.args.h)) = is_exact (search (sizes, wall-size c.requires, c) depth 30 fits 9000) refl in
+    (share-room-at (bending-share c.requires) num den).num
+
+pub of_ratio-requires-clause-room : goal.of_ratio-requires-clause-room
+of_ratio-requires-clause-room g c =
+    let num : stored-128 (stored-128 c.from.result *ℤ stored-128 (stored-128 (stored-128 c.wide_product.result +ℤ stored-128 c.wide_product-2.result) +ℤ stored-128 c.wide_product-3.result)) ≡ c.args.item.now.lamina.t *ℤ (c.args.inner *ℤ c.args.inner +ℤ c.args.inner *ℤ c.args.outer +ℤ c.args.outer *ℤ c.args.outer) = is_exact (search (sizes, thick-size c.requires, inner-size c.requires, outer-size c.requires, c) depth 30 fits 9000) refl in
+    let den : stored-128 (pos 3 *ℤ stored-128 (stored-128 c.from-2.result *ℤ stored-128 c.wide_product-4.result)) ≡ pos 3 *ℤ (c.args.h *ℤ (c.args.h *ℤ c.args.h)) = is_exact (search (sizes, wall-size c.requires, c) depth 30 fits 9000) refl in
+    (share-room-at (bending-share c.requires) num den).room
+
+pub returns-clause-value : goal.returns-clause-value
+returns-clause-value g c =
+    let num : stored-128 (stored-128 c.from.result *ℤ stored-128 (stored-128 (stored-128 c.wide_product.result +ℤ stored-128 c.wide_product-2.result) +ℤ stored-128 c.wide_product-3.result)) ≡ c.args.item.now.lamina.t *ℤ (c.args.inner *ℤ c.args.inner +ℤ c.args.inner *ℤ c.args.outer +ℤ c.args.outer *ℤ c.args.outer) = is_exact (search (sizes, thick-size c.requires, inner-size c.requires, outer-size c.requires, c) depth 30 fits 9000) refl in
+    let den : stored-128 (pos 3 *ℤ stored-128 (stored-128 c.from-2.result *ℤ stored-128 c.wide_product-4.result)) ≡ pos 3 *ℤ (c.args.h *ℤ (c.args.h *ℤ c.args.h)) = is_exact (search (sizes, wall-size c.requires, c) depth 30 fits 9000) refl in
+    c.of_ratio.ensures ∙ ap₂ g.N.Enclosure.numbers.calc.ratio num den
+
+pub returns-clause-short : goal.returns-clause-short
+returns-clause-short g c = subst (IsShort g.N.Enclosure.numbers) (sym (returns-clause-value g c)) (short-share g.met.N.Enclosure.laws (bending-share c.requires))

@@ -1,42 +1,41 @@
-use Rattle.std.proofs.Common.{rules, ◌≡◌, subst, ap₂, w64, SFits}
-use Rattle.lam_fraction.specs.Fraction.{fraction}
-use Rattle.lam_number.specs.Encloses.{Encloses}
-use Rattle.lam_lamina.proofs.Casts.{machine}
-use Rattle.lam_wall.proofs.Moments.{coupling-numerator, coupling-denominator, coupling-positive, coupling-small}
-use Rattle.lam_wall.proofs.ShareParts.{coupling-part}
+use Rattle.std.proofs.Common.{◌≡◌, refl, sym, ◌∙◌, ap₂, subst, pos, ◌+ℤ◌, ◌*ℤ◌}
+use Rattle.lam_fraction.proofs.numbers.Machine.{sizes, stored-128, fits_in_128, is_exact}
+use Rattle.lam_wall.specs.inside.Parts.{IsShort}
+use Rattle.lam_wall.proofs.SharesKnown.{coupling-share, share-room-at, short-share, thick-size, inner-size, outer-size, wall-size}
 use Rattle.lam_wall.proofs.ply_shares.coupling.Goals as goal
 
-pub share-requires-clause-positive : goal.share-requires-clause-positive
-share-requires-clause-positive g c =
-    let t : machine c.args.item.now.lamina.t ≡ c.args.item.now.lamina.t = search rules in
-    let a : machine c.args.inner ≡ c.args.inner = search rules in
-    let b : machine c.args.outer ≡ c.args.outer = search rules in
-    let h : machine c.args.h ≡ c.args.h = search rules in
-    let fr : SFits w64 c.first_moment.result = record { sfits = c.first_moment.type_inv } in
-    let fs : SFits w64 c.twice_square.result = record { sfits = c.twice_square.type_inv } in
-    let den = coupling-denominator c.requires fr fs h t a b c.twice_square.ensures in
-    coupling-positive c.requires fr fs h t a b den
+pub overflow_mul-wide_product : goal.overflow_mul-wide_product
+overflow_mul-wide_product g c = fits_in_128 (search (sizes, wall-size c.requires, c) depth 30 fits 9000) refl
 
-pub share-requires-clause-small : goal.share-requires-clause-small
-share-requires-clause-small g c =
-    let t : machine c.args.item.now.lamina.t ≡ c.args.item.now.lamina.t = search rules in
-    let a : machine c.args.inner ≡ c.args.inner = search rules in
-    let b : machine c.args.outer ≡ c.args.outer = search rules in
-    let h : machine c.args.h ≡ c.args.h = search rules in
-    let fr : SFits w64 c.first_moment.result = record { sfits = c.first_moment.type_inv } in
-    let fs : SFits w64 c.twice_square.result = record { sfits = c.twice_square.type_inv } in
-    let num = coupling-numerator c.requires fr fs h t a b c.first_moment.ensures in
-    let den = coupling-denominator c.requires fr fs h t a b c.twice_square.ensures in
-    coupling-small c.requires fr fs h t a b num den
+pub of_ratio-requires-clause-positive : goal.of_ratio-requires-clause-positive
+of_ratio-requires-clause-positive g c =
+    let num : stored-128 c.wide_product.result ≡ c.args.item.now.lamina.t *ℤ (c.args.inner +ℤ c.args.outer) = is_exact (search (sizes, thick-size c.requires, inner-size c.requires, outer-size c.requires, c) depth 30 fits 9000) refl in
+    let den : stored-128 (pos 2 *ℤ stored-128 c.wide_product-2.result) ≡ pos 2 *ℤ (c.args.h *ℤ c.args.h) = is_exact (search (sizes, wall-size c.requires, c) depth 30 fits 9000) refl in
+    (share-room-at (coupling-share c.requires) num den).positive
 
-pub returns-clause-known : goal.returns-clause-known
-returns-clause-known g c =
-    let t : machine c.args.item.now.lamina.t ≡ c.args.item.now.lamina.t = search rules in
-    let a : machine c.args.inner ≡ c.args.inner = search rules in
-    let b : machine c.args.outer ≡ c.args.outer = search rules in
-    let h : machine c.args.h ≡ c.args.h = search rules in
-    let fr : SFits w64 c.first_moment.result = record { sfits = c.first_moment.type_inv } in
-    let fs : SFits w64 c.twice_square.result = record { sfits = c.twice_square.type_inv } in
-    let num = coupling-numerator c.requires fr fs h t a b c.first_moment.ensures in
-    let den = coupling-denominator c.requires fr fs h t a b c.twice_square.ensures in
-    coupling-part c.requires _ _ _ _ (subst (Encloses _ _ _) (ap₂ fraction num den) c.share.ensures.held) c.share.ensures.narrow
+pub of_ratio-requires-clause-den : goal.of_ratio-requires-clause-den
+of_ratio-requires-clause-den g c =
+    let num : stored-128 c.wide_product.result ≡ c.args.item.now.lamina.t *ℤ (c.args.inner +ℤ c.args.outer) = is_exact (search (sizes, thick-size c.requires, inner-size c.requires, outer-size c.requires, c) depth 30 fits 9000) refl in
+    let den : stored-128 (pos 2 *ℤ stored-128 c.wide_product-2.result) ≡ pos 2 *ℤ (c.args.h *ℤ c.args.h) = is_exact (search (sizes, wall-size c.requires, c) depth 30 fits 9000) refl in
+    (share-room-at (coupling-share c.requires) num den).den
+
+pub of_ratio-requires-clause-num : goal.of_ratio-requires-clause-num
+of_ratio-requires-clause-num g c =
+    let num : stored-128 c.wide_product.result ≡ c.args.item.now.lamina.t *ℤ (c.args.inner +ℤ c.args.outer) = is_exact (search (sizes, thick-size c.requires, inner-size c.requires, outer-size c.requires, c) depth 30 fits 9000) refl in
+    let den : stored-128 (pos 2 *ℤ stored-128 c.wide_product-2.result) ≡ pos 2 *ℤ (c.args.h *ℤ c.args.h) = is_exact (search (sizes, wall-size c.requires, c) depth 30 fits 9000) refl in
+    (share-room-at (coupling-share c.requires) num den).num
+
+pub of_ratio-requires-clause-room : goal.of_ratio-requires-clause-room
+of_ratio-requires-clause-room g c =
+    let num : stored-128 c.wide_product.result ≡ c.args.item.now.lamina.t *ℤ (c.args.inner +ℤ c.args.outer) = is_exact (search (sizes, thick-size c.requires, inner-size c.requires, outer-size c.requires, c) depth 30 fits 9000) refl in
+    let den : stored-128 (pos 2 *ℤ stored-128 c.wide_product-2.result) ≡ pos 2 *ℤ (c.args.h *ℤ c.args.h) = is_exact (search (sizes, wall-size c.requires, c) depth 30 fits 9000) refl in
+    (share-room-at (coupling-share c.requires) num den).room
+
+pub returns-clause-value : goal.returns-clause-value
+returns-clause-value g c =
+    let num : stored-128 c.wide_product.result ≡ c.args.item.now.lamina.t *ℤ (c.args.inner +ℤ c.args.outer) = is_exact (search (sizes, thick-size c.requires, inner-size c.requires, outer-size c.requires, c) depth 30 fits 9000) refl in
+    let den : stored-128 (pos 2 *ℤ stored-128 c.wide_product-2.result) ≡ pos 2 *ℤ (c.args.h *ℤ c.args.h) = is_exact (search (sizes, wall-size c.requires, c) depth 30 fits 9000) refl in
+    c.of_ratio.ensures ∙ ap₂ g.N.Enclosure.numbers.calc.ratio num den
+
+pub returns-clause-short : goal.returns-clause-short
+returns-clause-short g c = subst (IsShort g.N.Enclosure.numbers) (sym (returns-clause-value g c)) (short-share g.met.N.Enclosure.laws (coupling-share c.requires))

@@ -13,10 +13,10 @@ returns-then-are_within c =
     let mx : SFits w64 load.mx = search rules in
     let my : SFits w64 load.my = search rules in
     let mxy : SFits w64 load.mxy = search rules in
-    let forces = forces_decided floor c.args.h load f c.ranges.h _ _ _ _ _ c.product-force.ensures nx ny nxy c.into.ensures c.into-2.ensures c.into-3.ensures c.are_within.ensures in
+    let forces = forces_decided floor c.args.h load f c.ranges.h _ _ _ _ _ c.wide_product-force.ensures nx ny nxy c.into.ensures c.into-2.ensures c.into-3.ensures c.are_within.ensures in
     both_decide floor c.args.h load _ (forces.0 c.if-are_within.true)
-    (moments_decided floor c.args.h load f c.ranges.h _ _ _ _ _ _ _ c.from.ensures c.product.ensures (record { sfits = c.saturating_mul-moment.type_inv }) c.saturating_mul-moment.ensures
-    mx my mxy c.product-then-are_within.ensures c.product-then-are_within-2.ensures c.product-then-are_within-3.ensures c.are_within-then-are_within.ensures)
+    (moments_decided floor c.args.h load f c.ranges.h _ _ _ _ _ _ _ c.from.ensures c.wide_product.ensures (record { sfits = c.saturating_mul-moment.type_inv }) c.saturating_mul-moment.ensures
+    mx my mxy c.wide_product-then-are_within.ensures c.wide_product-then-are_within-2.ensures c.wide_product-then-are_within-3.ensures c.are_within-then-are_within.ensures)
 
 pub returns-else-are_within : goal.returns-else-are_within
 returns-else-are_within c =
@@ -27,4 +27,4 @@ returns-else-are_within c =
     let ny : SFits w64 load.ny = search rules in
     let nxy : SFits w64 load.nxy = search rules in
     forces_refuse floor c.args.h load _ c.if-are_within.false
-    (forces_decided floor c.args.h load f c.ranges.h _ _ _ _ _ c.product-force.ensures nx ny nxy c.into.ensures c.into-2.ensures c.into-3.ensures c.are_within.ensures)
+    (forces_decided floor c.args.h load f c.ranges.h _ _ _ _ _ c.wide_product-force.ensures nx ny nxy c.into.ensures c.into-2.ensures c.into-3.ensures c.are_within.ensures)

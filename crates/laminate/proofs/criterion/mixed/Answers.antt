@@ -1,18 +1,20 @@
-use Rattle.std.proofs.Common.{subst}
-use Rattle.lam_number.specs.Encloses.{Encloses}
-use Rattle.laminate.specs.ScaledCriterion.{mixed_coefficient}
-use Rattle.laminate.proofs.ReadAgain.{numerator_read}
-use Rattle.laminate.proofs.StrengthBounds.{read, mixed_reach}
+use Rattle.std.proofs.Common.{refl, pos}
+use Rattle.lam_fraction.specs.numbers.Numbers.{RatioRoom}
+use Rattle.lam_fraction.proofs.numbers.Machine.{stored-128, is_exact, sized_given, sized_result, sized_stored-128}
+use Rattle.lam_stock.proofs.StrengthBounds.{interaction_small}
+use Rattle.laminate.specs.inside.ScaledCriterion.{mixed_coefficient}
+use Rattle.laminate.proofs.Computed.{in_room, mixed_room, ratio_is}
 use Rattle.laminate.proofs.criterion.mixed.Goals as goal
 
 pub of_ratio-requires : goal.of_ratio-requires
 of_ratio-requires g c =
-    let reach = mixed_reach (read (record { sfits = c.interaction.type_inv }) c.interaction.ensures) c.requires in
-    record { positive = reach.positive; den = reach.den; num = reach.num; room = reach.room }
+    let room : RatioRoom (stored-128 c.interaction.result) (pos 8000000000000000000) =
+    in_room (is_exact (sized_stored-128 (sized_result c.interaction.ensures (sized_given (interaction_small c.requires)))) refl) refl (mixed_room c.requires) in
+    record { positive = room.positive; den = room.den; num = room.num; room = room.room }
 
 pub returns : goal.returns
 unfolding mixed_coefficient
 returns g c =
-    subst (Encloses g.N.Enclosure.SCALE (g.N.Enclosure.low_end c.of_ratio.result) (g.N.Enclosure.high_end c.of_ratio.result))
-    (numerator_read _ _ _ (record { sfits = c.interaction.type_inv }) c.interaction.ensures)
-    c.of_ratio.ensures.held
+    (ratio_is g.met.N.Enclosure.laws
+    (is_exact (sized_stored-128 (sized_result c.interaction.ensures (sized_given (interaction_small c.requires)))) refl) refl (mixed_room c.requires)
+    c.of_ratio.ensures).held

@@ -1,5 +1,5 @@
 use Rattle.std.proofs.Common.{arith}
-use Rattle.laminate.specs.StrengthRatio.{ply_stress_of}
+use Rattle.laminate.specs.inside.StrengthRatio.{ply_stress_of}
 use Rattle.laminate.proofs.RatioMet.{zero_met}
 use Rattle.laminate.proofs.criterion.printed_ratio.Goals as goal
 

@@ -1,7 +1,7 @@
 use Rattle.std.proofs.Common.{◌<◌, ◌≤◌, ◌-◌, pos}
 use Rattle.lam_fraction.specs.Fraction.{whole}
 use Rattle.lam_stock.specs.TsaiWu.{RatioAtLeast}
-use Rattle.laminate.specs.StrengthRatio.{ply_stress_of}
+use Rattle.laminate.specs.inside.StrengthRatio.{ply_stress_of}
 use Rattle.laminate.proofs.criterion.printed_ratio.Given as goal
 
 abbrev pub invariant-loop-beyond : goal.invariant-loop-beyond

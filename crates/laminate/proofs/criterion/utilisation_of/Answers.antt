@@ -1,6 +1,8 @@
-use Rattle.std.proofs.Common.{rules, refl, FitsSigned}
-use Rattle.std.specs.Int.{w64}
-use Rattle.laminate.proofs.ReadAgain.{greater_read, stress_read}
+use Rattle.std.proofs.Common.{◌≡◌, ◌∙◌, ap₂, rules, w64}
+use Rattle.std.specs.Int.{int_max}
+use Rattle.std.proofs.lemmas.Int.{to_z-of_z}
+use Rattle.lam_fraction.proofs.numbers.Machine.{stored-64}
+use Rattle.laminate.proofs.Computed.{stress_as}
 use Rattle.laminate.proofs.criterion.utilisation_of.Goals as goal
 
 pub returns : goal.returns
@@ -8,17 +10,19 @@ returns g c =
     let l = c.args.lamina.now in
     let t = c.args.stress.now in
     let k = c.args.thousandths in
-    let xt : FitsSigned w64 l.xt = search rules in
-    let xc : FitsSigned w64 l.xc = search rules in
-    let yt : FitsSigned w64 l.yt = search rules in
-    let yc : FitsSigned w64 l.yc = search rules in
-    let s : FitsSigned w64 l.s = search rules in
-    let along : FitsSigned w64 t.along = search rules in
-    let across : FitsSigned w64 t.across = search rules in
-    let shear : FitsSigned w64 t.shear = search rules in
-    let over : FitsSigned w64 t.over = search rules in
+    let along : stored-64 t.along ≡ t.along = search rules in
+    let across : stored-64 t.across ≡ t.across = search rules in
+    let shear : stored-64 t.shear ≡ t.shear = search rules in
+    let over : stored-64 t.over ≡ t.over = search rules in
+    let s : stored-64 l.s ≡ l.s = search rules in
+    let xt : stored-64 l.xt ≡ l.xt = search rules in
+    let xc : stored-64 l.xc ≡ l.xc = search rules in
+    let yt : stored-64 l.yt ≡ l.yt = search rules in
+    let yc : stored-64 l.yc ≡ l.yc = search rules in
+    let x = to_z-of_z w64 c.max-x.result (record { sfits = c.max-x.type_inv }) ∙ c.max-x.ensures.value ∙ ap₂ int_max xt xc in
+    let y = to_z-of_z w64 c.max-y.result (record { sfits = c.max-y.type_inv }) ∙ c.max-y.ensures.value ∙ ap₂ int_max yt yc in
     record {
-      along = stress_read g.N.Enclosure.SCALE _ _ t.along t.over _ _ k along over (record { sfits = c.max-x.type_inv }) (greater_read _ l.xt l.xc xt xc c.max-x.ensures.value) c.in_ok-over_strength.ensures;
-      across = stress_read g.N.Enclosure.SCALE _ _ t.across t.over _ _ k across over (record { sfits = c.max-y.type_inv }) (greater_read _ l.yt l.yc yt yc c.max-y.ensures.value) c.in_ok-over_strength-2.ensures;
-      shear = stress_read g.N.Enclosure.SCALE _ _ t.shear t.over l.s l.s k shear over s refl c.in_ok-over_strength-3.ensures;
+      along = stress_as k along over x c.in_ok-over_strength.ensures;
+      across = stress_as k across over y c.in_ok-over_strength-2.ensures;
+      shear = stress_as k shear over s c.in_ok-over_strength-3.ensures;
     }

@@ -1,19 +1,18 @@
-use Rattle.std.proofs.Common.{◌∙◌, sym, ap, option_map}
+use Rattle.std.proofs.Common.{◌∙◌, sym}
 use Rattle.std.proofs.lemmas.Bool.{false≢true}
 use Rattle.toml.specs.View.{table_view}
-use Rattle.laminate.specs.Read.{numbers}
 use Rattle.laminate.proofs.JobBytes.{job_of-read, job_of-refused}
 use Rattle.laminate.proofs.job.read_job.Goals as goal
 
 pub returns-in-Some-clause-ok : goal.returns-in-Some-clause-ok
 returns-in-Some-clause-ok c =
     job_of-read c.args.bytes.now (table_view c.in-Ok.table) c.in-Ok.ensures.ok.0 c.in-Ok.ensures.ok.1
-    ∙ (sym c.read_table.ensures ∙ ap (option_map numbers) c.in-Some.is)
+    ∙ (sym c.read_table.ensures ∙ c.in-Some.is)
 
 pub returns-in-Ok-clause-refused : goal.returns-in-Ok-clause-refused
 returns-in-Ok-clause-refused c =
     λ _. job_of-read c.args.bytes.now (table_view c.in-Ok.table) c.in-Ok.ensures.ok.0 c.in-Ok.ensures.ok.1
-    ∙ (sym c.read_table.ensures ∙ ap (option_map numbers) c.in-None.is)
+    ∙ (sym c.read_table.ensures ∙ c.in-None.is)
 
 pub returns-else-is_memory-clause-refused : goal.returns-else-is_memory-clause-refused
 returns-else-is_memory-clause-refused c =

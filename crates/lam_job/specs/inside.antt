@@ -1,0 +1,1 @@
+pub mod Views  -- what the models of a job show

@@ -1,0 +1,4 @@
+pub mod Formulas
+pub mod Known
+pub mod Eighths
+pub mod Table

@@ -1,0 +1,3 @@
+//! What the modes answer, one file a mode.
+
+pub mod analyse;
