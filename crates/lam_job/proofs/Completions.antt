@@ -1,8 +1,8 @@
--- A full partial is completed by its fixed plies.
+-- A full partial is completed by its fixed plies, and by no other schedule.
 use Rattle.std.proofs.Common.{◌≡◌, refl, sym, ◌∙◌, ap, subst, ℕ, suc, ◌+◌, ◌-◌, ◌/◌, ◌≤◌, List, [], ◌∷◌, ◌++◌, reverse, length, take, drop, All, Bool, true, false, IsTrue, if◌then◌else◌, arith}
-use Rattle.std.proofs.lemmas.List.{reverse-append, reverse-reverse, length-reverse, length-append, length-take-le, length-drop, take-append-drop, append_assoc}
+use Rattle.std.proofs.lemmas.List.{reverse-append, reverse-reverse, length-reverse, length-append, length-take-le, length-drop, take-append-drop, take-append-le, append_assoc}
 use Rattle.std.proofs.lemmas.List.Elements.{All-append, All-take, All-cons, All-tail, All-nil}
-use Rattle.std.proofs.Math.Seq.{take-append_seam, take-length}
+use Rattle.std.proofs.Math.Seq.{take-append_seam, take-length, drop-append_seam}
 use Rattle.lam_stock.specs.declared.item.Item.{Item}
 use Rattle.lam_stock.specs.declared.item.ItemNo.{ItemNo}
 use Rattle.lam_job.specs.JobData.{JobData}
@@ -80,3 +80,34 @@ completes_full stock job p some short known full =
       begins = begins_so symmetric p;
       symmetric = palindrome symmetric p full;
     }
+
+-- ---- it has no other completion
+
+-- the plies behind the first h of a palindrome are the mirror image of as many at its start
+behind : (h k : ℕ) (plies : List ItemNo) → IsPalindrome plies → length plies ≡ h + k → drop h plies ≡ reverse (take k plies)
+behind h k plies same long =
+    let t = take k plies in
+    let d = drop k plies in
+    let turned : plies ≡ reverse d ++ reverse t = same ∙ ap reverse (sym (take-append-drop k plies)) ∙ reverse-append t d in
+    let first : length (reverse d) ≡ h = length-reverse d ∙ (let e = length-drop k plies in omega (arith, e, long)) in
+    ap (drop h) turned ∙ ap (λ n. drop n (reverse d ++ reverse t)) (sym first) ∙ drop-append_seam (reverse d) (reverse t)
+
+settled : (symmetric : Bool) (p : Partial) (listed : List ItemNo) → length p.prefix ≡ half_of symmetric p.n → length listed ≡ p.n
+    → take (length p.prefix) listed ≡ p.prefix → (IsTrue symmetric → IsPalindrome listed) → listed ≡ fixed symmetric p
+settled false p listed full long begins mirrors =
+    sym (take-length listed) ∙ ap (λ n. take n listed) (long ∙ sym full) ∙ begins
+settled true p listed full long begins mirrors =
+    let h = length p.prefix in
+    let k = p.n - h in
+    let f : h ≡ (p.n + 1) / 2 = full in
+    let split = take-append-drop h listed in
+    let start : take k listed ≡ take k p.prefix
+    = ap (take k) (sym split ∙ ap (λ l. l ++ drop h listed) begins) ∙ take-append-le k p.prefix (drop h listed) (omega (arith, f)) in
+    sym split
+    ∙ ap (λ l. l ++ drop h listed) begins
+    ∙ ap (λ l. p.prefix ++ l) (behind h k listed (mirrors refl) (omega (arith, long, f)) ∙ ap reverse start)
+
+-- whatever completes a full partial is its completion
+pub only_completion : (stock : List Item) (job : JobData) (p : Partial) (listed : List ItemNo) → IsFull job p
+    → Completes stock job p listed → listed ≡ completion job p
+only_completion stock job p listed full c = settled job.rules.symmetric p listed full c.long c.begins c.symmetric

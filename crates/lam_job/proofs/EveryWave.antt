@@ -8,8 +8,9 @@ use Rattle.lam_fraction.specs.inside.WholeNumbers.{product_positive}
 use Rattle.lam_fraction.proofs.Expression.{int, ◌⊗◌}
 use Rattle.lam_fraction.proofs.Solver.{◌≐◌}
 use Rattle.lam_fraction.proofs.Integers as integers
-use Rattle.lam_fraction.proofs.FractionPairs.{fraction-equal, fraction-product, whole-lt}
-use Rattle.lam_fraction.proofs.Rationals.{quotes, by_ring, from₁, at_most, at_most_over, square, ◌*ₙ◌, ◌*ₚ◌, above, weaken, positive_number, inverse_positive, transitive}
+use Rattle.lam_fraction.proofs.FractionPairs.{fraction-equal, fraction-product}
+use Rattle.lam_fraction.proofs.Rationals.{quotes, by_ring, from₁, at_most, at_most_over, square, ◌*ₙ◌, above, weaken, positive_number, inverse_positive, transitive}
+use Rattle.lam_fraction.proofs.WholeFractions.{fraction_positive}
 use Rattle.lam_stock.specs.declared.item.Item.{Item}
 use Rattle.lam_stock.specs.PlyLaw.{two}
 use Rattle.lam_job.specs.JobData.{PanelData}
@@ -42,11 +43,6 @@ circle_is_not_negative : whole (pos 0) ≤ℚ circle_square
 unfolding whole fraction class_of ◌*ℚ◌ ◌/ℚ◌ inverse is_at_most on_one on_two of_two
 circle_is_not_negative = record { le = refl }
 
--- a fraction of numbers above 0 is above 0
-fraction_is_positive : (n d : ℤ) → pos 0 <ℤ n → pos 0 <ℤ d → whole (pos 0) <ℚ fraction n d
-unfolding fraction ◌/ℚ◌
-fraction_is_positive n d p q = (whole-lt (pos 0) n).1 p *ₚ inverse_positive ((whole-lt (pos 0) d).1 q)
-
 -- the load of the formula where a half wave is as long as the plate is wide
 abbrev pub load_at_the_least : List Item → PanelData → ℚ
 load_at_the_least wall panel =
@@ -71,5 +67,5 @@ stands_in_every_wave wall panel r long wide stiff even least m some =
     let along = fraction waves a in
     let across = fraction a ((b *ℤ b) *ℤ waves) in
     let even_share = fraction (pos 1) b in
-    let sums = least_sum along across even_share (fraction_is_positive waves a n p) (shares_of_waves a b waves p q n) in
+    let sums = least_sum along across even_share (fraction_positive waves a n p) (shares_of_waves a b waves p q n) in
     transitive least (least_bracket circle_square (stiffness_11 wall) (stiffness_22 wall) middle (whole (pos 1000000)) along across even_share circle_is_not_negative stiff (positive_number 999999) even sums)

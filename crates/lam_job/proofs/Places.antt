@@ -59,3 +59,10 @@ thickness-within (i ∷ items) h =
     let t = (All-head WithinLimits i items h).limits.range.rest in
     let rest = thickness-within items (All-tail WithinLimits i items h) in
     (omega (arith, ints, t.least_t, rest.0), omega (arith, ints, t.greatest_t, rest.1))
+
+-- neither one of them nor all together have a negative thickness
+pub thickness_not_negative : {i : Item} → WithinLimits i → pos 0 ≤ℤ i.lamina.t
+thickness_not_negative h = omega (arith, ints, h.limits.range.rest.least_t)
+
+pub wall_not_negative : (items : List Item) → All WithinLimits items → pos 0 ≤ℤ wall_thickness items
+wall_not_negative items h = let t = (thickness-within items h).0 in omega (arith, ints, t)

@@ -10,6 +10,7 @@ use Rattle.lam_stock.specs.declared.item.Kind.{Kind}
 use Rattle.lam_stock.specs.declared.item.Kind.TheVariants.{Ply, Pair}
 use Rattle.lam_stock.specs.PlyLaw.{OffAxis, OnAxis, mean, strain_on_axis, stress_off_axis, cosine, sine, reduced_11, reduced_12, reduced_22, reduced_66}
 use Rattle.lam_stock.proofs.Angles.{two_halves, sine-mirrored}
+use Rattle.lam_stock.proofs.EnergyTransformed.{same_off_axis}
 use Rattle.lam_fraction.specs.numbers.Arithmetic.{exact}
 use Rattle.lam_lamina.specs.inside.Formulas as by
 use Rattle.lam_lamina.specs.declared.powers.Powers.{Powers}
@@ -89,10 +90,6 @@ mean-s k r c s e =
 
 -- ---- of a layer
 
--- two stresses of the wall with the same components are the same
-same_stress : {t u : OffAxis} → t.x ≡ u.x → t.y ≡ u.y → t.s ≡ u.s → t ≡ u
-same_stress x y s = λ i. record { x = x i; y = y i; s = s i }
-
 -- the reduced stiffness
 abbrev pub moduli_of : Lamina → Reduced ℚ
 moduli_of l = record { q11 = reduced_11 l; q12 = reduced_12 l; q22 = reduced_22 l; q66 = reduced_66 l }
@@ -103,7 +100,7 @@ ply-is q0 l d = record {
   gives = λ e.
       let k = inverse (whole q0) in
       let r = moduli_of l in
-      same_stress (transformed-x k r (cosine d) (sine d) e) (transformed-y k r (cosine d) (sine d) e) (transformed-s k r (cosine d) (sine d) e);
+      same_off_axis (transformed-x k r (cosine d) (sine d) e) (transformed-y k r (cosine d) (sine d) e) (transformed-s k r (cosine d) (sine d) e);
 }
 
 pair-is : (q0 : ℤ) (l : Lamina) (d : CirclePoint) → IsStiffness q0 Pair l d (uncoupled_stiffness (transformed_stiffness (moduli_over q0 l) (cosine d) (sine d)))
@@ -112,7 +109,7 @@ pair-is q0 l d = record {
   gives = λ e.
       let k = inverse (whole q0) in
       let r = moduli_of l in
-      same_stress (mean-x k r (cosine d) (sine d) e) (mean-y k r (cosine d) (sine d) e) (mean-s k r (cosine d) (sine d) e)
+      same_off_axis (mean-x k r (cosine d) (sine d) e) (mean-y k r (cosine d) (sine d) e) (mean-s k r (cosine d) (sine d) e)
       ∙ ap (λ s. stress_over q0 (mean_stress (wall_stress_by r (cosine d) (sine d) e) (wall_stress_by r (cosine d) s e))) (sym (sine-mirrored d));
 }
 

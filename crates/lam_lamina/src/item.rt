@@ -1,6 +1,6 @@
 // The stiffness of a catalogue item in the axes of the wall.
 
-ghost use Rattle.std.specs.Prelude.{◌≡◌, ℤ, pos};
+ghost use Rattle.std.specs.Prelude.{◌≡◌, ℤ};
 ghost use Rattle.lam_direction.specs.Circle.{IsDirection};
 ghost use Rattle.lam_stock.specs.declared.item.Kind.TheVariants.{Ply};
 ghost use Rattle.lam_stock.specs.declared.item.Lamina.{Lamina};
@@ -12,7 +12,7 @@ ghost use Rattle.lam_lamina.specs.inside.Known.{ReachModuli};
 
 use crate::lamina::reduced;
 use crate::powers::direction_powers;
-use crate::stiffness::{Reduced, Sym3};
+use crate::stiffness::{Reduced, Sym3, zero};
 use crate::transformation::by_powers;
 use lam_direction::Direction;
 use lam_number::Enclosure;
@@ -70,11 +70,4 @@ fn uncoupled<N: Enclosure>(matrix: &Sym3<N>) -> Sym3<N>
         ys: zero,
         ..*matrix
     }
-}
-
-// 0
-fn zero<N: Enclosure>() -> N
-    ensures { result ≡ N.numbers.calc.ratio (pos 0) (pos 1) }
-{
-    N::of_ratio(0, 1)
 }

@@ -21,7 +21,7 @@ mod laws;
 pub use item::{item_stiffness, transformed};
 pub use lamina::reduced;
 pub use laws::layers_work_between;
-pub use stiffness::{Reduced, Sym3};
+pub use stiffness::{Reduced, Sym3, zeros};
 pub use table::Stiffnesses;
 
 #[cfg(test)]

@@ -1,5 +1,10 @@
 // What a stiffness consists of.
 
+ghost use Rattle.std.specs.Prelude.{◌≡◌, pos};
+ghost use Rattle.lam_lamina.specs.inside.Formulas as by;
+
+use lam_number::Enclosure;
+
 /// The reduced stiffness of a lamina, in its own axes and over the scale's `q0`: the stresses that
 /// the normal strain along the fibres (1), that across them (2) and the shear strain (6) give.
 #[derive(Clone, Copy)]
@@ -24,4 +29,26 @@ pub struct Sym3<N> {
     pub xs: N,
     pub ys: N,
     pub ss: N,
+}
+
+/// The matrix of zeros: no stiffness at all, before the first ply of a sum.
+pub fn zeros<N: Enclosure>() -> Sym3<N>
+    ensures { result ≡ by.zeros N.numbers.calc }
+{
+    let zero = zero();
+    Sym3 {
+        xx: zero,
+        xy: zero,
+        yy: zero,
+        xs: zero,
+        ys: zero,
+        ss: zero,
+    }
+}
+
+// 0
+pub(crate) fn zero<N: Enclosure>() -> N
+    ensures { result ≡ N.numbers.calc.ratio (pos 0) (pos 1) }
+{
+    N::of_ratio(0, 1)
 }

@@ -6,12 +6,11 @@ ghost use Rattle.lam_stock.specs.declared.item.Item.{Item};
 ghost use Rattle.lam_lamina.specs.Held.{HoldsMatrix, NarrowMatrix};
 ghost use Rattle.lam_lamina.specs.Stiffness.{stiffness_over, IsBounded};
 ghost use Rattle.lam_lamina.specs.inside.Eighths.{eight_of};
-ghost use Rattle.lam_lamina.specs.inside.Table as spec;
 ghost use Rattle.lam_lamina.specs.inside.Table.{IsTableOf, entry_at, place_value};
 
 use crate::eight::Eight;
 use crate::item::item_stiffness;
-use crate::stiffness::Sym3;
+use crate::stiffness::{Sym3, zeros};
 use lam_number::Enclosure;
 use lam_stock::{ItemNo, Stock};
 
@@ -85,20 +84,5 @@ fn entry<N: Enclosure>(stock: &Stock, place: usize) -> Sym3<N>
     match stock.items().get(place) {
         Some(item) => item_stiffness(item, &scale),
         None => zeros(),
-    }
-}
-
-// the matrix of zeros
-fn zeros<N: Enclosure>() -> Sym3<N>
-    ensures { result ≡ spec.zeros N.numbers.calc }
-{
-    let zero = N::of_ratio(0, 1);
-    Sym3 {
-        xx: zero,
-        xy: zero,
-        yy: zero,
-        xs: zero,
-        ys: zero,
-        ss: zero,
     }
 }

@@ -61,17 +61,19 @@ order_as a b p q e f h = subst (λ z. z ≤ℤ b) (sym e) (subst (λ z. p ≤ℤ
 pub units_read : (num : ℤ) (n s : ℕ) → FitsSigned w128 num → s ≤ 60 → n ≡ 2 ^ s → to_z w128 (of_z w128 num) *ℤ to_z w128 n ≡ num *ℤ pos (2 ^ s)
 units_read num n s p h e = ap (λ x. x *ℤ to_z w128 n) (to_z-of_z w128 num p) ∙ ap (λ x. num *ℤ x) (unit_read n s h e)
 
+-- a quotient of a numerator in units by a denominator that is read again, rounded by f
+ratio_read : (f : ℤ → ℕ → ℤ) (s : ℕ) (num den r : ℤ) → FitsSigned w128 r → FitsSigned w128 num → FitsSigned w128 den → r ≡ to_z w128 (of_z w128 num) *ℤ pos (2 ^ s) → f (to_z w128 (of_z w128 r)) (unsigned_abs (to_z w128 (of_z w128 den))) ≡ f (num *ℤ pos (2 ^ s)) (unsigned_abs den)
+ratio_read f s num den r p n q e =
+    ap (λ z. f z (unsigned_abs (to_z w128 (of_z w128 den)))) (read_wide r _ p (e ∙ ap (λ z. z *ℤ pos (2 ^ s)) (to_z-of_z w128 num n)))
+    ∙ ap (λ d. f (num *ℤ pos (2 ^ s)) (unsigned_abs d)) (to_z-of_z w128 den q)
+
 pub ratio_low_read : (s : ℕ) (num den r : ℤ) → FitsSigned w128 r → FitsSigned w128 num → FitsSigned w128 den → r ≡ to_z w128 (of_z w128 num) *ℤ pos (2 ^ s) → floor_over (to_z w128 (of_z w128 r)) (unsigned_abs (to_z w128 (of_z w128 den))) ≡ ratio_low s num den
 unfolding ratio_low
-ratio_low_read s num den r p n q e =
-    ap (λ z. floor_over z (unsigned_abs (to_z w128 (of_z w128 den)))) (read_wide r _ p (e ∙ ap (λ z. z *ℤ pos (2 ^ s)) (to_z-of_z w128 num n)))
-    ∙ ap (λ d. floor_over (num *ℤ pos (2 ^ s)) (unsigned_abs d)) (to_z-of_z w128 den q)
+ratio_low_read = ratio_read floor_over
 
 pub ratio_high_read : (s : ℕ) (num den r : ℤ) → FitsSigned w128 r → FitsSigned w128 num → FitsSigned w128 den → r ≡ to_z w128 (of_z w128 num) *ℤ pos (2 ^ s) → ceil_over (to_z w128 (of_z w128 r)) (unsigned_abs (to_z w128 (of_z w128 den))) ≡ ratio_high s num den
 unfolding ratio_high
-ratio_high_read s num den r p n q e =
-    ap (λ z. ceil_over z (unsigned_abs (to_z w128 (of_z w128 den)))) (read_wide r _ p (e ∙ ap (λ z. z *ℤ pos (2 ^ s)) (to_z-of_z w128 num n)))
-    ∙ ap (λ d. ceil_over (num *ℤ pos (2 ^ s)) (unsigned_abs d)) (to_z-of_z w128 den q)
+ratio_high_read = ratio_read ceil_over
 
 -- an end over a whole number, both widened
 pub widened : {A : Type 0} (f : ℤ → ℕ → A) (end k : ℤ) → FitsSigned w64 end → FitsSigned w64 k → f (to_z w128 (of_z w128 (to_z w64 (of_z w64 end)))) (unsigned_abs (to_z w128 (of_z w128 (to_z w64 (of_z w64 k))))) ≡ f end (unsigned_abs k)

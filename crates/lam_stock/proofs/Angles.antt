@@ -1,14 +1,14 @@
 -- Cosines and sines of directions and of their mirror images.
-use Rattle.std.proofs.Common.{◌≡◌, refl, sym, subst₂, ◌∙◌, ap, ap₂, ℤ, pos, neg_ℤ, ◌*ℤ◌, ◌<ℤ◌, arith}
+use Rattle.std.proofs.Common.{◌≡◌, refl, sym, subst₂, ◌∙◌, ap, ap₂, pos, ◌*ℤ◌, ◌<ℤ◌, arith}
 use Rattle.std.proofs.lemmas.Int.{ints}
-use Rattle.lam_fraction.specs.Fraction.{ℚ, whole, ◌+ℚ◌, ◌*ℚ◌, opposite, inverse, fraction, class_of, ◌<ℚ◌, ◌-ℚ◌, ◌/ℚ◌}
-use Rattle.lam_fraction.specs.inside.Quotient.{on_one}
+use Rattle.lam_fraction.specs.Fraction.{ℚ, whole, ◌+ℚ◌, ◌*ℚ◌, opposite, inverse, fraction, ◌<ℚ◌, ◌-ℚ◌, ◌/ℚ◌}
 use Rattle.lam_fraction.proofs.FractionPairs.{whole-lt}
 use Rattle.lam_fraction.proofs.FractionRing.{whole-sum, whole-product}
 use Rattle.lam_fraction.proofs.Expression.{int, ◌⊕◌, ◌⊗◌, minus}
 use Rattle.lam_fraction.proofs.Solver.{◌≐◌}
 use Rattle.lam_fraction.proofs.Rationals.{solve, same_without_factor, ◌*ₚ◌}
 use Rattle.lam_fraction.proofs.FractionBounds.{fraction-times}
+use Rattle.lam_fraction.proofs.WholeFractions.{whole-opposite}
 use Rattle.lam_direction.specs.Circle.{CirclePoint, IsDirection}
 use Rattle.lam_stock.specs.PlyLaw.{two, cosine, sine, Side, Plus, Minus, side_point}
 
@@ -16,10 +16,6 @@ pub two_halves : fraction (pos 1) (pos 2) *ℚ two ≡ whole (pos 1)
 two_halves = fraction-times (pos 1) (pos 2) (omega (arith, ints))
 
 -- ---- the mirror image
-
-pub whole-opposite : (z : ℤ) → whole (neg_ℤ z) ≡ opposite (whole z)
-unfolding whole class_of opposite on_one
-whole-opposite z = refl
 
 pub cosine-mirrored : (d : CirclePoint) → cosine (side_point Minus d) ≡ cosine d
 unfolding cosine

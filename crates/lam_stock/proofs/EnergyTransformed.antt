@@ -1,4 +1,5 @@
--- Strain energy and the sum of squares of strains are the same in laminate axes and in ply axes.
+-- Strains and stresses in laminate axes: each is known by its components, and strain energy and the sum of squares of
+-- strains are the same in ply axes.
 use Rattle.std.proofs.Common.{◌≡◌, refl, pos, [], ◌∷◌}
 use Rattle.lam_fraction.specs.Fraction.{ℚ, whole, fraction, ◌+ℚ◌, ◌-ℚ◌, ◌*ℚ◌, ◌/ℚ◌}
 use Rattle.lam_fraction.proofs.Solver.{quotes}
@@ -6,6 +7,9 @@ use Rattle.lam_fraction.proofs.Rationals.{by_ring, from₂}
 use Rattle.lam_stock.specs.Energy.{twice_energy, twice_energy_on_axis, strain_squares, strain_squares_on_axis}
 use Rattle.lam_stock.specs.PlyLaw.{OffAxis, OnAxis, two, strain_on_axis, stress_off_axis}
 use Rattle.lam_stock.proofs.Angles.{IsAngle, two_halves}
+
+pub same_off_axis : {t u : OffAxis} → t.x ≡ u.x → t.y ≡ u.y → t.s ≡ u.s → t ≡ u
+same_off_axis x y s = λ i. record { x = x i; y = y i; s = s i }
 
 pub twice_energy-transformed : (c s : ℚ) (t : OnAxis) (e : OffAxis)
     → twice_energy (stress_off_axis c s t) e ≡ twice_energy_on_axis t (strain_on_axis c s e)

@@ -8,6 +8,7 @@ use Rattle.std.proofs.lemmas.Bool.Decides.{nat_tests}
 use Rattle.std.proofs.lemmas.Int.{clamps, ints}
 use Rattle.std.proofs.lemmas.List.Elements.{All-cons, All-head, All-nil, All-tail, All-weaker}
 use Rattle.std.proofs.Math.Nat.{pow-suc, pow-le-pow_right}
+use Rattle.lam_fraction.proofs.Laws.{transitive}
 use Rattle.lam_stock.specs.Moduli.{stiffness_floor, stiffness_cap}
 use Rattle.lam_stock.specs.Scale.{IsScaleOf, first_power, power_above, scale_of, least_floor, greatest_cap}
 use Rattle.lam_stock.specs.Stock.{IsStock, WithinLimits}
@@ -91,9 +92,6 @@ stiffness_cap-greatest i w = let m = w.limits.range.moduli in omega (arith, ints
 stiffness_cap-least : (i : Item) → WithinLimits i → pos 4000 ≤ℤ stiffness_cap i.lamina
 stiffness_cap-least i w = let m = w.limits.range.moduli in omega (arith, ints, clamps, m.least_e1, m.least_e2)
 
-reached_by : (a b c : ℤ) → a ≤ℤ b → b ≤ℤ c → a ≤ℤ c
-reached_by a b c low high = omega (arith, ints)
-
 power_within : (q : ℤ) (power : ℕ) → q ≡ pos power → power ≤ 2097152 → q ≤ℤ pos 2097152
 power_within q power is few = omega (arith, ints)
 
@@ -166,7 +164,7 @@ scale-within (i ∷ items) now scale stock same =
     let cap = stiffness_cap-least i limits in
     let floor = stiffness_floor-greatest i limits in
     let powers : 2 ^ facts.1.0 ≤ 2 ^ 21 = pow-le-pow_right {n = 2} (omega arith) {i = facts.1.0} {j = 21} facts.1.1 in (
-      reached_by (pos 4000) (stiffness_cap i.lamina) scale.q0 cap covered,
+      transitive (pos 4000) (stiffness_cap i.lamina) scale.q0 cap covered,
       power_within scale.q0 (2 ^ facts.1.0) facts.1.2 powers,
-      reached_by scale.floor (stiffness_floor i.lamina) (pos 400000) below floor,
+      transitive scale.floor (stiffness_floor i.lamina) (pos 400000) below floor,
     )

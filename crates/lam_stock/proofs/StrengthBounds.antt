@@ -1,10 +1,10 @@
 -- What the limits on the strengths say: each is positive, and the interaction term is small beside them.
-use Rattle.std.proofs.Common.{◌≡◌, refl, subst, [], ◌∷◌, ◌⊎◌, inl, inr, ◌^◌, ◌<◌, ◌≤◌, ℤ, pos, negsuc, ◌*ℤ◌, ◌+ℤ◌, neg_ℤ, ◌≤ℤ◌, ◌<ℤ◌, arith}
+use Rattle.std.proofs.Common.{◌≡◌, refl, [], ◌∷◌, ◌⊎◌, inl, inr, ◌^◌, ◌<◌, ◌≤◌, ℤ, pos, ◌*ℤ◌, ◌≤ℤ◌, ◌<ℤ◌, arith}
 use Rattle.std.specs.Prelude.{unsigned_abs}
 use Rattle.std.specs.Int.{int_max}
 use Rattle.std.proofs.lemmas.Int.{ints, clamps}
 use Rattle.lam_fraction.proofs.Laws.{either}
-use Rattle.lam_fraction.proofs.Integers.{quotes, by_ring, weaken, square, number, above, at_most, at_most_over, ◌+ₙ◌, ◌*ₙ◌}
+use Rattle.lam_fraction.proofs.Integers.{quotes, by_ring, weaken, square, number, above, at_most, below_root, above_root, ◌+ₙ◌, ◌*ₙ◌}
 use Rattle.lam_stock.specs.declared.item.Lamina.{Lamina}
 use Rattle.lam_stock.specs.Limits.{IsStrength, AreWithinSixteen, KeepsLimits, KeepsStrengths}
 
@@ -58,17 +58,6 @@ cross_square f x y p q k h j kept =
     at_most
     (number 64 *ₙ above kept +ₙ square f *ₙ (above h *ₙ (square y +ₙ above j) +ₙ square x *ₙ above j))
     (by_ring (f ∷ x ∷ y ∷ p ∷ q ∷ k ∷ []) (search quotes depth 40 fits 9000) refl)
-
--- a number whose square is at most that of another
-pub below_root : (z m : ℤ) → pos 0 <ℤ m → (z *ℤ z) ≤ℤ (m *ℤ m) → z ≤ℤ m
-below_root (negsuc z) m p h = omega (arith, ints)
-below_root (pos z) m p h = go (pos z) (number z) h
-  where
-    go : (z : ℤ) → pos 0 ≤ℤ z → (z *ℤ z) ≤ℤ (m *ℤ m) → z ≤ℤ m
-    go z least h = at_most_over {k = m +ℤ z} (omega (arith, ints, p, least)) (above h) (by_ring (z ∷ m ∷ []) (search quotes depth 20) refl)
-
-pub above_root : (z m : ℤ) → pos 0 <ℤ m → (z *ℤ z) ≤ℤ (m *ℤ m) → neg_ℤ z ≤ℤ m
-above_root z m p h = below_root (neg_ℤ z) m p (subst (λ x. x ≤ℤ (m *ℤ m)) (by_ring (z ∷ []) (search quotes depth 20) refl) h)
 
 -- the interaction term times the greater strengths
 abbrev pub interaction : Lamina → ℤ

@@ -8,9 +8,10 @@ use Rattle.lam_stock.specs.declared.item.Lamina.{Lamina}
 use Rattle.lam_stock.specs.declared.item.Kind.{Kind}
 use Rattle.lam_stock.specs.declared.item.Kind.TheVariants.{Ply, Pair}
 use Rattle.lam_stock.specs.PlyLaw.{OffAxis, ply_stress, strain_on_axis, stress_off_axis, cosine, sine, Side, Plus, Minus, side_point, side_wall_stress, layer_stress, mean, reduced_11, reduced_12, reduced_22, reduced_66}
+use Rattle.lam_stock.proofs.EnergyTransformed.{same_off_axis}
+use Rattle.lam_lamina.proofs.Identities.{mean_stress}
 use Rattle.lam_job.specs.Equilibrium.{item_stress}
 use Rattle.lam_wall.specs.Matrices.{added}
-use Rattle.lam_wall.proofs.OffAxes.{same_off_axis}
 
 -- ---- at the cosine c and the sine s of an angle
 abbrev stress_at : Lamina → ℚ → ℚ → OffAxis → OffAxis
@@ -35,17 +36,14 @@ side-sum l d side u v =
 mean-sum : (a b c d : ℚ) → mean (a +ℚ b) (c +ℚ d) ≡ mean a c +ℚ mean b d
 mean-sum a b c d = by_ring (a ∷ b ∷ c ∷ d ∷ fraction (pos 1) (pos 2) ∷ []) (search quotes depth 20) refl
 
-abbrev means : OffAxis → OffAxis → OffAxis
-means t u = record { x = mean t.x u.x; y = mean t.y u.y; s = mean t.s u.s }
-
-means-sum : (a b c d : OffAxis) → means (added a b) (added c d) ≡ added (means a c) (means b d)
-means-sum a b c d = same_off_axis (mean-sum a.x b.x c.x d.x) (mean-sum a.y b.y c.y d.y) (mean-sum a.s b.s c.s d.s)
+mean_stress-sum : (a b c d : OffAxis) → mean_stress (added a b) (added c d) ≡ added (mean_stress a c) (mean_stress b d)
+mean_stress-sum a b c d = same_off_axis (mean-sum a.x b.x c.x d.x) (mean-sum a.y b.y c.y d.y) (mean-sum a.s b.s c.s d.s)
 
 layer-sum : (kind : Kind) (l : Lamina) (d : CirclePoint) (u v : OffAxis) → layer_stress kind l d (added u v) ≡ added (layer_stress kind l d u) (layer_stress kind l d v)
 layer-sum Ply l d u v = side-sum l d Plus u v
 layer-sum Pair l d u v =
-    ap₂ means (side-sum l d Plus u v) (side-sum l d Minus u v)
-    ∙ means-sum (side_wall_stress l d Plus u) (side_wall_stress l d Plus v) (side_wall_stress l d Minus u) (side_wall_stress l d Minus v)
+    ap₂ mean_stress (side-sum l d Plus u v) (side-sum l d Minus u v)
+    ∙ mean_stress-sum (side_wall_stress l d Plus u) (side_wall_stress l d Plus v) (side_wall_stress l d Minus u) (side_wall_stress l d Minus v)
 
 pub stress-sum : (i : Item) (u v : OffAxis) → item_stress i (added u v) ≡ added (item_stress i u) (item_stress i v)
 stress-sum i u v = layer-sum i.kind i.lamina i.dir u v

@@ -19,7 +19,7 @@ use Rattle.lam_job.specs.LaminateStrain.{LaminateStrain}
 use Rattle.lam_job.specs.Schedule.{items_of}
 use Rattle.lam_job.specs.Wall.{wall_thickness}
 use Rattle.lam_job.proofs.Listed.{items_of-all, items_of-length}
-use Rattle.lam_job.proofs.Places.{thickness-within}
+use Rattle.lam_job.proofs.Places.{thickness-within, thickness_not_negative}
 use Rattle.lam_wall.specs.declared.wall.Wall.{Wall}
 use Rattle.lam_wall.specs.Matrices.{Matrices, AreStiffnesses, matrices, stiffness_of}
 use Rattle.lam_wall.specs.MatrixLaw.{AreMatrices}
@@ -51,10 +51,7 @@ module _ {stock : List Item} {scale : Scale} (is : IsStock stock scale) (numbers
   listed-limits = items_of-all stock WithinLimits is.limits numbers
 
   each : All (λ i. pos 0 ≤ℤ i.lamina.t) wall
-  each = All-weaker WithinLimits (λ i. pos 0 ≤ℤ i.lamina.t) thick wall listed-limits
-    where
-      thick : (i : Item) → WithinLimits i → pos 0 ≤ℤ i.lamina.t
-      thick i h = omega (arith, ints, h.limits.range.rest.least_t)
+  each = All-weaker WithinLimits (λ i. pos 0 ≤ℤ i.lamina.t) (λ i h. thickness_not_negative h) wall listed-limits
 
   works : All (LayerEnergyBetween scale.floor scale.q0) wall
   works = items_of-all stock (LayerEnergyBetween scale.floor scale.q0) (catalogue-works stock scale is.limits (scale-kept stock stock scale is refl).0) numbers

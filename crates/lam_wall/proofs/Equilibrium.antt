@@ -6,19 +6,15 @@ use Rattle.lam_fraction.specs.Fraction.{ℚ, whole, fraction, ◌*ℚ◌, ◌<�
 use Rattle.lam_fraction.proofs.Expression.{int, ◌⊗◌}
 use Rattle.lam_fraction.proofs.Solver.{◌≐◌}
 use Rattle.lam_fraction.proofs.FractionRing.{whole-product}
-use Rattle.lam_fraction.proofs.Rationals.{solve, same_without_factor}
+use Rattle.lam_fraction.proofs.Rationals.{solve, same_without_factor, fraction_times}
 use Rattle.lam_fraction.proofs.FractionBounds.{fraction-times, whole_positive}
+use Rattle.lam_stock.proofs.EnergyTransformed.{same_off_axis}
 use Rattle.lam_job.specs.Wall.{wall_thickness}
 use Rattle.lam_wall.specs.MatrixLaw.{EquilibriumByMatrices}
-use Rattle.lam_wall.proofs.OffAxes.{same_off_axis}
 
 -- a sum that is k times x is n where x is n over k
 scaled : {sum x goal n : ℚ} (k : ℚ) → whole (pos 0) <ℚ k → k *ℚ goal ≡ n → sum ≡ k *ℚ x → (sum ≡ n) ↔ (x ≡ goal)
 scaled k above is s = ((λ e. same_without_factor k above (sym s ∙ e ∙ sym is)), (λ e. s ∙ ap (λ t. k *ℚ t) e ∙ is))
-
-force_goal : (n k : ℤ) → pos 0 <ℤ k → whole k *ℚ fraction n k ≡ whole n
-unfolding ◌-ℚ◌ ◌/ℚ◌
-force_goal n k above = solve 2 (λ k f. k ⊗ f ≐ f ⊗ k) refl (whole k) (fraction n k) ∙ fraction-times n k above
 
 moment_goal : (m l : ℤ) → pos 0 <ℤ l → whole (pos 6 *ℤ l) *ℚ fraction (pos 2000 *ℤ m) l ≡ whole (pos 12000 *ℤ m)
 unfolding ◌-ℚ◌ ◌/ℚ◌
@@ -59,7 +55,7 @@ equilibrium_by_matrices q0 wall m load f scale_above above are = (
 
     force : {sum x : ℚ} (n : ℤ) → sum ≡ whole (pos 4 *ℤ (wall_thickness wall *ℤ q0)) *ℚ x
         → (sum ≡ whole n) ↔ (x ≡ fraction n (pos 4 *ℤ (wall_thickness wall *ℤ q0)))
-    force n e = scaled (whole (pos 4 *ℤ (wall_thickness wall *ℤ q0))) (whole_positive four) (force_goal n (pos 4 *ℤ (wall_thickness wall *ℤ q0)) four) e
+    force n e = scaled (whole (pos 4 *ℤ (wall_thickness wall *ℤ q0))) (whole_positive four) (fraction_times n (pos 4 *ℤ (wall_thickness wall *ℤ q0)) four) e
 
     moment : {sum x : ℚ} (n : ℤ) → sum ≡ whole (pos 6 *ℤ (wall_thickness wall *ℤ (wall_thickness wall *ℤ q0))) *ℚ x
         → (sum ≡ whole (pos 12000 *ℤ n)) ↔ (x ≡ fraction (pos 2000 *ℤ n) (wall_thickness wall *ℤ (wall_thickness wall *ℤ q0)))

@@ -9,7 +9,8 @@ use Rattle.lam_lamina.specs.declared.stiffness.Sym3.{Sym3}
 use Rattle.lam_lamina.specs.Stiffness.{stress_of}
 use Rattle.lam_wall.specs.Matrices.{Matrices, added, forces, moments}
 use Rattle.lam_stock.specs.Energy.{twice_energy}
-use Rattle.lam_wall.proofs.OffAxes.{less, same_off_axis}
+use Rattle.lam_stock.proofs.EnergyTransformed.{same_off_axis}
+use Rattle.lam_wall.proofs.OffAxes.{less}
 
 -- ---- one stiffness
 pub work-turned : (q : Sym3 ℚ) (u v : OffAxis) → twice_energy (stress_of q u) v ≡ twice_energy (stress_of q v) u

@@ -18,13 +18,14 @@ use Rattle.lam_stock.specs.Stock.{WithinLimits}
 use Rattle.lam_stock.proofs.ScaleFacts.{scale-kept}
 use Rattle.lam_lamina.specs.Covered.{IsCovered}
 use Rattle.lam_lamina.specs.declared.stiffness.Sym3.{Sym3}
+use Rattle.lam_lamina.specs.inside.Formulas.{zeros}
 use Rattle.lam_lamina.proofs.Catalogue.{catalogue-covered}
 use Rattle.lam_lamina.proofs.Entries.{entries-bounded}
 use Rattle.lam_lamina.proofs.StiffnessKnown.{held-item, narrow-item}
 use Rattle.lam_job.specs.Schedule.{items_of}
 use Rattle.lam_job.specs.Wall.{Placed, placed_from, wall_thickness}
 use Rattle.lam_job.proofs.Listed.{IsItemOf, known-item, items_of-append, items_of-more, items_of-all, items_of-length}
-use Rattle.lam_job.proofs.Places.{placed-append, thickness-append}
+use Rattle.lam_job.proofs.Places.{placed-append, thickness-append, thickness_not_negative, wall_not_negative}
 use Rattle.lam_wall.specs.declared.wall.Wall.{Wall}
 use Rattle.lam_wall.specs.Assembled.{most_thickness}
 use Rattle.lam_wall.specs.Matrices.{Matrices, extension_share, coupling_share, bending_share, shared, stiffness_of}
@@ -33,7 +34,7 @@ use Rattle.lam_lamina.specs.declared.table.Stiffnesses.{Stiffnesses}
 use Rattle.lam_lamina.specs.inside.Table.{IsTableOf, entry_at}
 use Rattle.lam_wall.specs.inside.Parts.{IsListed, IsPlaced, ShortMatrix, ShortWall, laid_at}
 use Rattle.lam_wall.proofs.SharesKnown.{share_of, known-share, extension-share, coupling-share, bending-share}
-use Rattle.lam_wall.proofs.SumsKnown.{KnownEntries, entry_of, sum_of, known-stiffness, known-summed, summed-is, not_negative}
+use Rattle.lam_wall.proofs.SumsKnown.{KnownEntries, entry_of, sum_of, known-stiffness, known-summed, summed-is}
 
 -- the first of some plies are no thicker than all
 pub first_within : (stock : List Item) (numbers : List ItemNo) (k : ℕ) → All WithinLimits stock
@@ -42,7 +43,7 @@ first_within stock numbers k limits =
     let all = ap (λ ns. wall_thickness (items_of stock ns)) (sym (take-append-drop k numbers))
     ∙ ap wall_thickness (items_of-append stock (take k numbers) (drop k numbers))
     ∙ thickness-append (items_of stock (take k numbers)) (items_of stock (drop k numbers)) in
-    let rest = not_negative (items_of stock (drop k numbers)) (items_of-all stock WithinLimits limits (drop k numbers)) in
+    let rest = wall_not_negative (items_of stock (drop k numbers)) (items_of-all stock WithinLimits limits (drop k numbers)) in
     omega (arith, ints, all, rest)
 
 -- ---- what is known of a wall of thickness h
@@ -123,7 +124,7 @@ module _ {A : Type 0} {n : Numbers A} (laws : Lawful n) (q0 h : ℤ) where
 
 module _ {A : Type 0} (v : Arithmetic A) (h : ℤ) (stiffness : Item → Sym3 A) (plies : List Placed) (p : Placed) where
   more : (share : Placed → A) → by.summed v share stiffness (plies ++ p ∷ []) ≡ by.with_share v (by.summed v share stiffness plies) (share p) (stiffness p.item)
-  more share = fold-append (λ m p. by.with_share v m (share p) (stiffness p.item)) (by.zeros v) plies (p ∷ [])
+  more share = fold-append (λ m p. by.with_share v m (share p) (stiffness p.item)) (zeros v) plies (p ∷ [])
 
   laid-more : by.laid v h stiffness (plies ++ p ∷ []) ≡ by.with_ply v (by.laid v h stiffness plies) p (stiffness p.item)
   laid-more =
@@ -206,10 +207,10 @@ module _ {A : Type 0} {n : Numbers A} (laws : Lawful n) {scale : Scale} {h : ℤ
 
     module _ {w : Wall A} {place : ℤ} (laid : IsLaidTo k w place) where
       below : pos 0 ≤ℤ wall_thickness done
-      below = not_negative done (first-are k).limits
+      below = wall_not_negative done (first-are k).limits
 
       thick : pos 0 ≤ℤ i.lamina.t
-      thick = let t = limits.limits.range.rest.least_t in omega (arith, ints, t)
+      thick = thickness_not_negative limits
 
       within : (wall_thickness done +ℤ i.lamina.t) ≤ℤ h
       within = subst (λ x. x ≤ℤ h) thickness (first-are (k + 1)).within

@@ -7,9 +7,10 @@ use Rattle.lam_fraction.proofs.Rationals.{solve, from₁, above, square, number,
 use Rattle.lam_fraction.proofs.FractionBounds.{times-inverse}
 use Rattle.lam_stock.specs.PlyLaw.{OffAxis}
 use Rattle.lam_stock.specs.Energy.{strain_squares}
+use Rattle.lam_stock.proofs.EnergyTransformed.{same_off_axis}
 use Rattle.lam_wall.specs.Energy.{mean_squares}
 use Rattle.lam_fraction.proofs.WholeFractions.{twice_half}
-use Rattle.lam_wall.proofs.OffAxes.{none, same_off_axis}
+use Rattle.lam_wall.proofs.OffAxes.{none}
 
 abbrev half : ℚ
 half = fraction (pos 1) (pos 2)

@@ -6,10 +6,8 @@ use Rattle.lam_fraction.proofs.Solver.{◌≐◌}
 use Rattle.lam_fraction.proofs.Rationals.{solve}
 use Rattle.lam_fraction.proofs.WholeFractions.{same_is_zero, same_of_zero}
 use Rattle.lam_stock.specs.PlyLaw.{OffAxis}
+use Rattle.lam_stock.proofs.EnergyTransformed.{same_off_axis}
 use Rattle.lam_wall.specs.Matrices.{added}
-
-pub same_off_axis : {t u : OffAxis} → t.x ≡ u.x → t.y ≡ u.y → t.s ≡ u.s → t ≡ u
-same_off_axis x y s = λ i. record { x = x i; y = y i; s = s i }
 
 abbrev pub none : OffAxis
 none = record { x = whole (pos 0); y = whole (pos 0); s = whole (pos 0) }

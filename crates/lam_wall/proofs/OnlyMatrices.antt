@@ -8,10 +8,10 @@ use Rattle.lam_fraction.proofs.Solver.{◌≐◌}
 use Rattle.lam_fraction.proofs.Rationals.{solve, same_without_factor}
 use Rattle.lam_stock.specs.declared.item.Item.{Item}
 use Rattle.lam_stock.specs.PlyLaw.{OffAxis}
+use Rattle.lam_stock.proofs.EnergyTransformed.{same_off_axis}
 use Rattle.lam_job.specs.Wall.{wall_thickness}
 use Rattle.lam_wall.specs.Matrices.{Matrices, bending_strain, forces, moments}
 use Rattle.lam_wall.specs.MatrixLaw.{AreMatrices, OnlyMatrices, times}
-use Rattle.lam_wall.proofs.OffAxes.{same_off_axis}
 use Rattle.lam_fraction.proofs.FractionBounds.{whole_positive}
 use Rattle.lam_wall.proofs.LinearSums.{row}
 use Rattle.lam_wall.proofs.Strains.{laminate_strain, bending_of_curvature}

@@ -8,12 +8,13 @@ use Rattle.lam_stock.specs.PlyLaw.{OffAxis}
 use Rattle.lam_lamina.specs.declared.stiffness.Sym3.{Sym3}
 use Rattle.lam_lamina.specs.Stiffness.{stress_of}
 use Rattle.lam_stock.specs.Energy.{twice_energy}
+use Rattle.lam_stock.proofs.EnergyTransformed.{same_off_axis}
 use Rattle.lam_wall.specs.Energy.{mean_squares}
 use Rattle.lam_wall.specs.QuadraticForm.{quadratic_form}
 use Rattle.lam_wall.specs.Matrices.{Matrices, added, forces, moments}
 use Rattle.lam_wall.proofs.Adjugates.{inverted, inverted-inverts, IsDefinite, Inverts}
 use Rattle.lam_wall.proofs.JointEnergy.{work-turned}
-use Rattle.lam_wall.proofs.OffAxes.{none, less, same_off_axis, added-less, less-added}
+use Rattle.lam_wall.proofs.OffAxes.{none, less, added-less, less-added}
 use Rattle.lam_wall.proofs.MeanSquares.{strain_at_most, bending_at_most}
 
 -- the quadratic form is above 0 at strains and bending strains whose mean squares are above 0

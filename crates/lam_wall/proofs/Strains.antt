@@ -6,9 +6,9 @@ use Rattle.lam_fraction.proofs.Solver.{◌≐◌}
 use Rattle.lam_fraction.proofs.Rationals.{solve, from₁}
 use Rattle.lam_fraction.proofs.FractionBounds.{times-inverse, whole_positive}
 use Rattle.lam_stock.specs.PlyLaw.{OffAxis}
+use Rattle.lam_stock.proofs.EnergyTransformed.{same_off_axis}
 use Rattle.lam_job.specs.LaminateStrain.{LaminateStrain}
 use Rattle.lam_wall.specs.Matrices.{bending_strain}
-use Rattle.lam_wall.proofs.OffAxes.{same_off_axis}
 use Rattle.lam_fraction.proofs.WholeFractions.{twice_half}
 
 -- the curvatures of these bending strains

@@ -17,9 +17,10 @@ use Rattle.lam_stock.specs.Stock.{WithinLimits}
 use Rattle.lam_lamina.specs.Held.{HoldsMatrix, IsNarrow, NarrowMatrix}
 use Rattle.lam_lamina.specs.Stiffness.{AtMostOne, IsBounded}
 use Rattle.lam_lamina.specs.declared.stiffness.Sym3.{Sym3}
+use Rattle.lam_lamina.specs.inside.Formulas.{zeros}
 use Rattle.lam_lamina.proofs.Bounds.{zero-fraction}
 use Rattle.lam_job.specs.Wall.{Placed, placed_from, wall_thickness}
-use Rattle.lam_job.proofs.Places.{thickness-within}
+use Rattle.lam_job.proofs.Places.{thickness_not_negative, wall_not_negative}
 use Rattle.lam_wall.specs.Assembled.{most_thickness}
 use Rattle.lam_wall.specs.Matrices.{shared}
 use Rattle.lam_wall.specs.inside.Formulas as by
@@ -91,7 +92,7 @@ module _ {A : Type 0} {n : Numbers A} (laws : Lawful n) (d : ℕ) (some : 1 ≤ 
   known-zero = known_ratio_at laws d some (sum_of d 0 0) (pos 0) (pos 1)
       (record { positive = omega (arith, ints); den = omega arith; num = omega arith; room = omega arith }) (omega arith) (omega arith)
 
-  known-zeros : KnownEntries n d (sum_of d 0 0) (by.zeros n.calc) (by.zeros exact)
+  known-zeros : KnownEntries n d (sum_of d 0 0) (zeros n.calc) (zeros exact)
   known-zeros = record { xx = known-zero; xy = known-zero; yy = known-zero; xs = known-zero; ys = known-zero; ss = known-zero }
 
   known-most : (t k : ℕ) → t ≤ d → k ≤ 64 → {z : A} {x : ℚ} → Known n d (sum_of d t k) z x → Known n d (sum_of d d 64) z x
@@ -108,9 +109,6 @@ module _ {A : Type 0} {n : Numbers A} (laws : Lawful n) (d : ℕ) (some : 1 ≤ 
   }
 
 -- ---- plies laid in a wall of thickness h
-
-pub not_negative : (items : List Item) → All WithinLimits items → pos 0 ≤ℤ wall_thickness items
-not_negative items h = let t = (thickness-within items h).0 in omega (arith, ints, t)
 
 module _ {A : Type 0} {n : Numbers A} (laws : Lawful n) (h : ℤ) (least : pos 1 ≤ℤ h) (greatest : h ≤ℤ most_thickness)
     (share : Placed → A) (c : Placed → ℚ) (stiffness : Item → Sym3 A) (q : Item → Sym3 ℚ)
@@ -130,12 +128,12 @@ module _ {A : Type 0} {n : Numbers A} (laws : Lawful n) (h : ℤ) (least : pos 1
       (fold (λ m p. by.with_share exact m (c p) (q p.item)) m (placed_from z items))
   laid-on [] z t k r m place limits known within few sums = known-all laws d some t k (omega (arith, ints, within)) (omega (arith, few)) sums
   laid-on (i ∷ items) z t k r m place limits known within few sums =
-      let thick = (All-head WithinLimits i items limits).limits.range.rest.least_t in
-      let rest = not_negative items (All-tail WithinLimits i items limits) in
+      let thick = thickness_not_negative (All-head WithinLimits i items limits) in
+      let rest = wall_not_negative items (All-tail WithinLimits i items limits) in
       let placed : IsPlaced h (laid_at i z) = record {
         least = least;
         greatest = greatest;
-        thick = omega (arith, ints, thick);
+        thick = thick;
         within = omega (arith, ints, within, rest);
         inner = omega (arith, ints, place);
         order = omega (arith, ints, thick);
@@ -176,5 +174,5 @@ module _ (c : Placed → ℚ) (q : Item → Sym3 ℚ) where
 
   pub summed-is : (plies : List Placed) → by.summed exact c q plies ≡ shared c q plies
   summed-is plies =
-      summed-on plies (by.zeros exact)
+      summed-on plies (zeros exact)
       ∙ same_matrix (on_nothing _) (on_nothing _) (on_nothing _) (on_nothing _) (on_nothing _) (on_nothing _)

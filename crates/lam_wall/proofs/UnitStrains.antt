@@ -8,12 +8,12 @@ use Rattle.lam_fraction.proofs.Solver.{◌≐◌}
 use Rattle.lam_fraction.proofs.Rationals.{solve, from₁, same_without_factor, positive_number}
 use Rattle.lam_fraction.proofs.FractionBounds.{times-inverse, fraction-times}
 use Rattle.lam_stock.specs.declared.item.Item.{Item}
+use Rattle.lam_stock.proofs.EnergyTransformed.{same_off_axis}
 use Rattle.lam_job.specs.LaminateStrain.{LaminateStrain, strain_at}
 use Rattle.lam_job.specs.Plate.{bent_x, bent_y, twisted, stiffness_11, stiffness_12, stiffness_22, stiffness_66}
 use Rattle.lam_job.specs.Wall.{wall_thickness}
 use Rattle.lam_wall.specs.Matrices.{Matrices, added, bending_strain}
 use Rattle.lam_wall.specs.MatrixLaw.{AreMatrices, times}
-use Rattle.lam_wall.proofs.OffAxes.{same_off_axis}
 use Rattle.lam_fraction.proofs.WholeFractions.{twice_half, whole-product₄}
 
 -- ---- the strain at a place, by the bending strains

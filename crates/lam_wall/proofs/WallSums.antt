@@ -11,12 +11,12 @@ use Rattle.lam_fraction.proofs.FractionPairs.{whole-le}
 use Rattle.lam_fraction.proofs.FractionSums.{sum-same, of_each}
 use Rattle.lam_stock.specs.declared.item.Item.{Item}
 use Rattle.lam_stock.specs.PlyLaw.{OffAxis}
+use Rattle.lam_stock.proofs.EnergyTransformed.{same_off_axis}
 use Rattle.lam_job.specs.Wall.{Placed, placed_plies, wall_thickness}
 use Rattle.lam_job.specs.LaminateStrain.{LaminateStrain}
 use Rattle.lam_job.specs.Equilibrium.{item_stress, ply_force, ply_moment, force_sum, moment_sum}
 use Rattle.lam_wall.specs.Matrices.{extension_share, coupling_share, bending_share, bending_strain}
 use Rattle.lam_wall.specs.MatrixLaw.{SumsByMatrices}
-use Rattle.lam_wall.proofs.OffAxes.{same_off_axis}
 use Rattle.lam_wall.proofs.LinearSums.{row, combined, sum-combined}
 use Rattle.lam_wall.proofs.PlySums.{ply_force_is, ply_moment_is}
 

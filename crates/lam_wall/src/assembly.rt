@@ -13,7 +13,7 @@ ghost use Rattle.lam_wall.specs.inside.Parts.{IsListed};
 use crate::plies::thickness;
 use crate::sums::{outer_face, with_ply};
 use crate::wall::Wall;
-use lam_lamina::{Stiffnesses, Sym3};
+use lam_lamina::{Stiffnesses, zeros};
 use lam_number::Enclosure;
 use lam_stock::{Item, ItemNo, Stack, Stock};
 
@@ -85,21 +85,6 @@ fn bare<N: Enclosure>(h: i64) -> Wall<N>
         b: zeros,
         d: zeros,
         h,
-    }
-}
-
-// a matrix of zeros
-fn zeros<N: Enclosure>() -> Sym3<N>
-    ensures { result ≡ by.zeros N.numbers.calc }
-{
-    let zero = N::of_ratio(0, 1);
-    Sym3 {
-        xx: zero,
-        xy: zero,
-        yy: zero,
-        xs: zero,
-        ys: zero,
-        ss: zero,
     }
 }
 

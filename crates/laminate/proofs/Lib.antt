@@ -11,6 +11,6 @@ pub mod OrderFacts
 pub mod Endings
 pub mod AnalysisText
 pub mod TurnedStress
-pub mod ForceLimits
+pub mod CaseLoad
 pub mod TurningTrials
 pub mod FullRoom

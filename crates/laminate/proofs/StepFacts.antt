@@ -1,5 +1,5 @@
 -- The steps from the bytes of two files and a word to a request: which step decides.
-use Rattle.std.proofs.Common.{◌≡◌, ℕ, zero, suc, ◌≤◌, ◌<◌, ◌+◌, Bool, true, false, List, [], ◌∷◌, length, Option, Some, None, Result, Ok, Err, refl, sym, ap, subst, ◌∙◌, le-leb, arith, nat_le, ℤ}
+use Rattle.std.proofs.Common.{◌≡◌, ◌⊎◌, inl, inr, ℕ, zero, suc, ◌≤◌, ◌<◌, ◌+◌, Bool, true, false, List, [], ◌∷◌, length, Option, Some, None, Result, Ok, Err, refl, sym, ap, subst, ◌∙◌, le-leb, arith, nat_le}
 use Rattle.std.specs.Prelude.{IfSome, if◌then◌else◌}
 use Rattle.lam_stock.specs.declared.fault.StockFault.{StockFault}
 use Rattle.lam_stock.specs.declared.item.Item.{Item}
@@ -13,13 +13,16 @@ use Rattle.laminate.specs.declared.fault.Source.TheVariants as source
 use Rattle.laminate.specs.declared.fault.Stop.{Stop}
 use Rattle.laminate.specs.declared.fault.Stop.TheVariants as stop
 use Rattle.laminate.specs.declared.input.Input.{Input}
-use Rattle.laminate.specs.declared.job.Job.{Job}
+use Rattle.lam_job.specs.JobData.{CaseData}
+use Rattle.lam_job.specs.LoadOf.{load_of}
+use Rattle.lam_job.specs.LoadRange.{LoadInRange}
 use Rattle.laminate.specs.declared.status.Status.TheVariants as status
 use Rattle.laminate.specs.Faults.{fault_status}
 use Rattle.laminate.specs.Input.{catalogue_or_fault, input_of, or_unbuilt, then_step, within_length}
 use Rattle.laminate.specs.Job.{job_of}
 use Rattle.laminate.specs.Outside.{IsContent}
-use Rattle.laminate.specs.Request.{Request, forces_in_range, item_named, loaded, request_of, requested, single_ply}
+use Rattle.laminate.specs.Request.{Request, item_named, loaded, request_of, requested, single_ply, where_holds}
+use Rattle.laminate.specs.RangeChoice.{in_range_or_not}
 use Rattle.laminate.specs.inside.Steps.{Gives}
 
 -- ---- a file's length
@@ -63,8 +66,8 @@ pub then_err : {A B : Type 0} (r : Result A Fault) (fault : Fault) (next : A →
 then_err {A = A} r fault next e = ap (λ (x : Result A Fault). then_step x next) e
 
 -- the steps left after the catalogue and the two lengths
-abbrev read : List Item → Job → Result Input Fault
-read items j = Ok (record { stock = items; job = j })
+abbrev read : List Item → CaseData → Result Input Fault
+read items c = Ok (record { stock = items; case = c })
 
 abbrev after_stock : List ℕ → List Item → Result Input Fault
 after_stock job items = then_step (or_unbuilt (job_of job)) (read items)
@@ -125,11 +128,11 @@ job_stops job catalogue items (stop.Fault fault) s e f =
     at_job job catalogue items s e ∙ then_err (or_unbuilt (job_of job)) fault (read items) f
 job_stops job catalogue items stop.Memory s e _ = tt
 
-pub both_read : (job catalogue : List ℕ) (items : List Item) (j : Job) → Short job catalogue
-    → catalogue_or_fault (stock_of catalogue) ≡ Ok items → or_unbuilt (job_of job) ≡ Ok j
-    → input_of job catalogue ≡ Ok (record { stock = items; job = j })
-both_read job catalogue items j s e f =
-    at_job job catalogue items s e ∙ then_ok (or_unbuilt (job_of job)) j (read items) f
+pub both_read : (job catalogue : List ℕ) (items : List Item) (c : CaseData) → Short job catalogue
+    → catalogue_or_fault (stock_of catalogue) ≡ Ok items → or_unbuilt (job_of job) ≡ Ok c
+    → input_of job catalogue ≡ Ok (record { stock = items; case = c })
+both_read job catalogue items c s e f =
+    at_job job catalogue items s e ∙ then_ok (or_unbuilt (job_of job)) c (read items) f
 
 -- ---- what the files say decides what is asked for
 
@@ -146,7 +149,7 @@ unasked job catalogue schedule fault e = then_err (input_of job catalogue) fault
 -- ---- the schedule word and the range of loads
 
 abbrev after_ply : Input → Item → Result Request Fault
-after_ply input i = loaded input.stock i input.job
+after_ply input i = loaded input.stock i input.case
 
 pub bad_schedule : (schedule : List ℕ) (input : Input) → single_ply (item_named schedule input.stock) ≡ None
     → requested schedule input ≡ Err Unbuilt
@@ -154,37 +157,35 @@ bad_schedule schedule input none =
     then_err (or_unbuilt (single_ply (item_named schedule input.stock))) Unbuilt (after_ply input) (ap or_unbuilt none)
 
 at_load : (schedule : List ℕ) (input : Input) (i : Item) → single_ply (item_named schedule input.stock) ≡ Some i
-    → requested schedule input ≡ loaded input.stock i input.job
+    → requested schedule input ≡ loaded input.stock i input.case
 at_load schedule input i some =
     then_ok (or_unbuilt (single_ply (item_named schedule input.stock))) i (after_ply input) (ap or_unbuilt some)
 
-abbrev granted_if : Bool → Request → Result Request Fault
-granted_if b q = if b then Ok q else Err Unbuilt
+where_yes : {P : Type 0} (choice : P ⊎ (¬ P)) (q : Request) → P → where_holds choice q ≡ Ok q
+where_yes (inl _) q p = refl
+where_yes (inr not_p) q p = absurd (not_p p)
 
-if_true : (b : Bool) (q : Request) → b ≡ true → granted_if b q ≡ Ok q
-if_true true q e = refl
-if_true false q e = cc
+where_no : {P : Type 0} (choice : P ⊎ (¬ P)) (q : Request) → ¬ P → where_holds choice q ≡ Err Unbuilt
+where_no (inl p) q not_p = absurd (not_p p)
+where_no (inr _) q not_p = refl
 
-if_false : (b : Bool) (q : Request) → b ≡ false → granted_if b q ≡ Err Unbuilt
-if_false true q e = cc
-if_false false q e = refl
+-- the load of the case is in range for the item as a wall of one ply
+abbrev pub Fits : Input → Item → Type 0
+Fits input i = LoadInRange (scale_of input.stock).floor i.lamina.t (load_of input.case.kind)
 
-pub out_of_range : (schedule : List ℕ) (input : Input) (i : Item) (floor : ℤ)
-    → single_ply (item_named schedule input.stock) ≡ Some i → floor ≡ (scale_of input.stock).floor
-    → forces_in_range floor i.lamina.t input.job ≡ false → requested schedule input ≡ Err Unbuilt
-out_of_range schedule input i floor some at out =
-    at_load schedule input i some
-    ∙ if_false (forces_in_range (scale_of input.stock).floor i.lamina.t input.job) (record { item = i; job = input.job })
-    (ap (λ (x : ℤ). forces_in_range x i.lamina.t input.job) (sym at) ∙ out)
+abbrev fits_or_not : (input : Input) (i : Item) → Fits input i ⊎ (¬ (Fits input i))
+fits_or_not input i = in_range_or_not (scale_of input.stock).floor i.lamina.t (load_of input.case.kind)
 
-pub granted : (schedule : List ℕ) (input : Input) (i : Item) (floor : ℤ)
-    → single_ply (item_named schedule input.stock) ≡ Some i → floor ≡ (scale_of input.stock).floor
-    → forces_in_range floor i.lamina.t input.job ≡ true
-    → requested schedule input ≡ Ok (record { item = i; job = input.job })
-granted schedule input i floor some at inside =
-    at_load schedule input i some
-    ∙ if_true (forces_in_range (scale_of input.stock).floor i.lamina.t input.job) (record { item = i; job = input.job })
-    (ap (λ (x : ℤ). forces_in_range x i.lamina.t input.job) (sym at) ∙ inside)
+pub out_of_range : (schedule : List ℕ) (input : Input) (i : Item)
+    → single_ply (item_named schedule input.stock) ≡ Some i → ¬ (Fits input i) → requested schedule input ≡ Err Unbuilt
+out_of_range schedule input i some beyond =
+    at_load schedule input i some ∙ where_no (fits_or_not input i) (record { item = i; case = input.case }) beyond
+
+pub granted : (schedule : List ℕ) (input : Input) (i : Item)
+    → single_ply (item_named schedule input.stock) ≡ Some i → Fits input i
+    → requested schedule input ≡ Ok (record { item = i; case = input.case })
+granted schedule input i some within =
+    at_load schedule input i some ∙ where_yes (fits_or_not input i) (record { item = i; case = input.case }) within
 
 -- ---- each refusal ends with the status for one
 
@@ -209,9 +210,9 @@ unbuilt_refuses : {A : Type 0} (o : Option A) → Refuses (or_unbuilt o)
 unbuilt_refuses None = refl
 unbuilt_refuses (Some a) = tt
 
-load_refuses : (b : Bool) (q : Request) → Refuses (granted_if b q)
-load_refuses true q = tt
-load_refuses false q = refl
+load_refuses : {P : Type 0} (choice : P ⊎ (¬ P)) (q : Request) → Refuses (where_holds choice q)
+load_refuses (inl _) q = tt
+load_refuses (inr _) q = refl
 
 input_refuses : (job catalogue : List ℕ) → Refuses (input_of job catalogue)
 input_refuses job catalogue =
@@ -227,7 +228,7 @@ requested_refuses : (schedule : List ℕ) (input : Input) → Refuses (requested
 requested_refuses schedule input =
     then_refuses (or_unbuilt (single_ply (item_named schedule input.stock))) (after_ply input)
     (unbuilt_refuses (single_ply (item_named schedule input.stock))) (λ i.
-    load_refuses (forces_in_range (scale_of input.stock).floor i.lamina.t input.job) (record { item = i; job = input.job }))
+    load_refuses (fits_or_not input i) (record { item = i; case = input.case }))
 
 request_refuses : (job catalogue schedule : List ℕ) → Refuses (request_of job catalogue schedule)
 unfolding request_of

@@ -16,19 +16,19 @@ record IsInHundredths (t : OnAxis) (along across shear : ℤ) : Type 0 where
   shear_is : t.shear ≡ fraction shear (pos 100)
 
 -- 18 MPa round the wall: 11.52 along the fibres, 6.48 across them, and 8.64 in shear, of the other sign in the mirror image
-round : IsInHundredths (stress_in_ply (leaning (pos 4)) (pos 0) (pos 90000) (pos 0) (pos 5000)) (pos 1152) (pos 648) (pos 864)
+round : IsInHundredths (stress_in_ply (leaning (pos 4)) (pos 0) (pos 360000) (pos 0) (pos 20000)) (pos 1152) (pos 648) (pos 864)
 unfolding whole fraction class_of ◌+ℚ◌ ◌-ℚ◌ ◌*ℚ◌ ◌/ℚ◌ opposite inverse on_one on_two of_two cosine sine
 round = record { along_is = sound refl; across_is = sound refl; shear_is = sound refl }
 
-round_mirrored : IsInHundredths (stress_in_ply (leaning (negsuc 3)) (pos 0) (pos 90000) (pos 0) (pos 5000)) (pos 1152) (pos 648) (negsuc 863)
+round_mirrored : IsInHundredths (stress_in_ply (leaning (negsuc 3)) (pos 0) (pos 360000) (pos 0) (pos 20000)) (pos 1152) (pos 648) (negsuc 863)
 unfolding whole fraction class_of ◌+ℚ◌ ◌-ℚ◌ ◌*ℚ◌ ◌/ℚ◌ opposite inverse on_one on_two of_two cosine sine
 round_mirrored = record { along_is = sound refl; across_is = sound refl; shear_is = sound refl }
 
 -- 18 MPa of shear: the fibres are pulled by 17.28 and pressed as much across, and the other way in the mirror image
-sheared : IsInHundredths (stress_in_ply (leaning (pos 4)) (pos 0) (pos 0) (pos 90000) (pos 5000)) (pos 1728) (negsuc 1727) (negsuc 503)
+sheared : IsInHundredths (stress_in_ply (leaning (pos 4)) (pos 0) (pos 0) (pos 360000) (pos 20000)) (pos 1728) (negsuc 1727) (negsuc 503)
 unfolding whole fraction class_of ◌+ℚ◌ ◌-ℚ◌ ◌*ℚ◌ ◌/ℚ◌ opposite inverse on_one on_two of_two cosine sine
 sheared = record { along_is = sound refl; across_is = sound refl; shear_is = sound refl }
 
-sheared_mirrored : IsInHundredths (stress_in_ply (leaning (negsuc 3)) (pos 0) (pos 0) (pos 90000) (pos 5000)) (negsuc 1727) (pos 1728) (negsuc 503)
+sheared_mirrored : IsInHundredths (stress_in_ply (leaning (negsuc 3)) (pos 0) (pos 0) (pos 360000) (pos 20000)) (negsuc 1727) (pos 1728) (negsuc 503)
 unfolding whole fraction class_of ◌+ℚ◌ ◌-ℚ◌ ◌*ℚ◌ ◌/ℚ◌ opposite inverse on_one on_two of_two cosine sine
 sheared_mirrored = record { along_is = sound refl; across_is = sound refl; shear_is = sound refl }

@@ -29,11 +29,11 @@ abbrev pub catalogue_or_fault : Result (List Item) StockFault → Result (List I
 catalogue_or_fault (Ok items) = Ok items
 catalogue_or_fault (Err fault) = Err (Catalogue fault)
 
--- the items of the catalogue and the job, or the first refusal
+-- the items of the catalogue and the case of the job, or the first refusal
 unfoldable pub input_of : (job catalogue : List ℕ) → Result Input Fault
 input_of job catalogue =
     then_step (within_length source.Job job) (λ _.
     then_step (within_length source.Catalogue catalogue) (λ _.
     then_step (catalogue_or_fault (stock_of catalogue)) (λ items.
-    then_step (or_unbuilt (job_of job)) (λ j.
-    Ok (record { stock = items; job = j })))))
+    then_step (or_unbuilt (job_of job)) (λ c.
+    Ok (record { stock = items; case = c })))))

@@ -1,15 +1,11 @@
--- What a job's text asks for, as far as it is read today.
-use Rattle.std.specs.Prelude.{ℕ, ◌≤◌, unsigned_abs, ℤ, pos, negsuc, List, [], ◌∷◌, Bool, true, false, ◌||◌, ◌&&◌, Option, Some, None, codes, if◌then◌else◌, int_le, bytes_eq}
+-- What a job's text asks for, as far as it is read today: one case of force resultants.
+use Rattle.std.specs.Prelude.{ℕ, ℤ, pos, neg_ℤ, List, [], ◌∷◌, Bool, true, false, ◌||◌, ◌&&◌, Option, Some, None, codes, if◌then◌else◌, int_le, bytes_eq}
 use Rattle.std.specs.Str.{is_utf8}
 use Rattle.toml.specs.Data.{Data, integer, string, array, table, Items, no_items, item, Members, no_members, member, get_member}
 use Rattle.toml.specs.Parse.{parse_document}
-use Rattle.laminate.specs.declared.job.Job.{Job}
-
--- each force is at most 10⁹ N/m in size
-pub record ForcesWithin (j : Job) : Type 0 where
-  pub nx : unsigned_abs j.nx ≤ 1000000000
-  pub ny : unsigned_abs j.ny ≤ 1000000000
-  pub nxy : unsigned_abs j.nxy ≤ 1000000000
+use Rattle.lam_job.specs.declared.limits.TheConstants.{GREATEST_FORCE, LEAST_FACTOR, GREATEST_FACTOR, MOST_PLIES}
+use Rattle.lam_job.specs.declared.case.CaseKind.TheVariants.{Resultants}
+use Rattle.lam_job.specs.JobData.{CaseData}
 
 -- the key is one of these
 abbrev pub is_among : List (List ℕ) → List ℕ → Bool
@@ -31,41 +27,41 @@ abbrev pub required : ℤ → ℤ → Option Data → Option ℤ
 required least greatest None = None
 required least greatest (Some d) = whole least greatest d
 
--- a force resultant: 0 where its key is absent
+-- a force resultant in N/m: 0 where its key is absent
 abbrev pub force : Option Data → Option ℤ
 force None = Some (pos 0)
-force (Some d) = whole (negsuc 999999999) (pos 1000000000) d
+force (Some d) = whole (neg_ℤ GREATEST_FORCE) GREATEST_FORCE d
 
 abbrev pub is_resultants : Option Data → Bool
 is_resultants (Some (string s)) = bytes_eq s (codes "resultants")
 is_resultants _ = false
 
--- the job, where each of its numbers is there
-abbrev pub with_numbers : Option ℤ → Option ℤ → Option ℤ → Option ℤ → Option Job
-with_numbers (Some x) (Some y) (Some s) (Some f) = Some (record { nx = x; ny = y; nxy = s; factor = f })
+-- the case without moments, where each of its numbers is there
+abbrev pub with_numbers : Option ℤ → Option ℤ → Option ℤ → Option ℤ → Option CaseData
+with_numbers (Some x) (Some y) (Some s) (Some f) = Some (record { kind = Resultants x y s (pos 0) (pos 0) (pos 0); factor = f })
 with_numbers _ _ _ _ = None
 
 abbrev pub case_keys : List (List ℕ)
 case_keys = codes "factor" ∷ codes "kind" ∷ codes "nx" ∷ codes "nxy" ∷ codes "ny" ∷ []
 
 -- a case of resultants in the wall's plane
-abbrev pub case_of : Members → Option Job
+abbrev pub case_of : Members → Option CaseData
 case_of ms =
     if has_only case_keys ms && is_resultants (get_member (codes "kind") ms)
     then with_numbers (force (get_member (codes "nx") ms)) (force (get_member (codes "ny") ms))
-    (force (get_member (codes "nxy") ms)) (required (pos 1000) (pos 20000) (get_member (codes "factor") ms))
+    (force (get_member (codes "nxy") ms)) (required LEAST_FACTOR GREATEST_FACTOR (get_member (codes "factor") ms))
     else None
 
-abbrev pub case_of_value : Data → Option Job
+abbrev pub case_of_value : Data → Option CaseData
 case_of_value (table ms) = case_of ms
 case_of_value _ = None
 
 -- a list of just one case
-abbrev pub one_item : Items → Option Job
+abbrev pub one_item : Items → Option CaseData
 one_item (item d no_items) = case_of_value d
 one_item _ = None
 
-abbrev pub one_case : Option Data → Option Job
+abbrev pub one_case : Option Data → Option CaseData
 one_case (Some (array ds)) = one_item ds
 one_case _ = None
 
@@ -76,19 +72,19 @@ abbrev pub is_there : Option ℤ → Bool
 is_there None = false
 is_there (Some z) = true
 
--- the job that a table is: version 1, a limit of 1 to 56, and one case
-abbrev pub job_of_table : Members → Option Job
+-- the case of the job that a table is: version 1, a limit of at most the most plies, and one case
+abbrev pub job_of_table : Members → Option CaseData
 job_of_table ms =
     if has_only top_keys ms
     && (is_there (required (pos 1) (pos 1) (get_member (codes "version") ms))
-    && is_there (required (pos 1) (pos 56) (get_member (codes "limit") ms)))
+    && is_there (required (pos 1) (pos MOST_PLIES) (get_member (codes "limit") ms)))
     then one_case (get_member (codes "case") ms)
     else None
 
-abbrev pub job_of_document : Option Members → Option Job
+abbrev pub job_of_document : Option Members → Option CaseData
 job_of_document None = None
 job_of_document (Some ms) = job_of_table ms
 
--- the job that the bytes of a file are
-unfoldable pub job_of : List ℕ → Option Job
+-- the case of the job that the bytes of a file are
+unfoldable pub job_of : List ℕ → Option CaseData
 job_of bytes = if is_utf8 bytes then job_of_document (parse_document bytes) else None

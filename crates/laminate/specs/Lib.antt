@@ -1,9 +1,11 @@
 -- what the words of the command line ask for
 pub mod Reading
--- the job that the bytes of a file are
+-- the case of the job that the bytes of a file are
 pub mod Job
 -- what the two files of an order say, or the first cause to refuse them
 pub mod Input
+-- whether a load is in range or not
+pub mod RangeChoice
 -- the stress of a wall, in the axes of a ply
 pub mod Turning
 -- what an order to analyse asks for, and a ratio that its ply has

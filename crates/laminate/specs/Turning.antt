@@ -4,7 +4,7 @@ use Rattle.lam_fraction.specs.Fraction.{fraction}
 use Rattle.lam_direction.specs.Circle.{CirclePoint}
 use Rattle.lam_stock.specs.PlyLaw.{OffAxis, OnAxis, cosine, sine, stress_on_axis}
 
--- the mean stress of a wall in MPa: its forces in N/m over its thickness in µm
+-- the mean stress of a wall in MPa: its forces in quarters of N/m over its thickness in quarters of µm
 abbrev pub wall_stress : (x y s thickness : ℤ) → OffAxis
 wall_stress x y s thickness = record { x = fraction x thickness; y = fraction y thickness; s = fraction s thickness }
 

@@ -1,16 +1,17 @@
 //! The job and the catalogue of an order, taken and read once for all modes.
 
-ghost use Rattle.std.specs.Prelude.{◌≡◌, ◌≤◌, ℕ, List, Ok, IfOk};
+ghost use Rattle.std.specs.Prelude.{◌≡◌, ◌≤◌, ℕ, List, Ok};
 ghost use Rattle.lam_stock.specs.Catalogue.{stock_of as stock_spec};
 ghost use Rattle.laminate.specs.Input.{catalogue_or_fault, input_of, or_unbuilt, within_length};
-ghost use Rattle.laminate.specs.Job.{ForcesWithin, job_of as job_spec};
+ghost use Rattle.laminate.specs.Job.{job_of as job_spec};
 ghost use Rattle.laminate.specs.Outside.{seen};
 ghost use Rattle.laminate.specs.inside.Spelled.{spelled};
 ghost use Rattle.laminate.specs.inside.Steps.{Gives, Takes, TakesInput};
 
 use crate::fault::{Fault, Source, Stop};
-use crate::job::{Job, JobError, read_job};
+use crate::job::{JobError, read_job};
 use crate::words::Order;
+use lam_job::Case;
 use lam_outside::{Bytes, Files, TakeFault, Taken};
 use lam_stock::{Stock, StockError, read_stock};
 use std::alloc::Global;
@@ -22,7 +23,7 @@ const GREATEST_INPUT: u64 = 1_048_576;
 #[derive(Drop)]
 pub struct Input {
     pub stock: Stock,
-    pub job: Job,
+    pub case: Case,
 }
 
 /// Takes the files of an order by their names, and reads them.
@@ -32,7 +33,6 @@ pub fn take_input<F: Files>(alloc: Global, files: &mut F, order: Order<'_>) -> R
     ensures takes { TakesInput
         (seen F.contents F.faults files.old) (seen F.contents F.faults files.new)
         (spelled order.entry) result }
-    ensures forces { IfOk result (λ input. ForcesWithin input.job) }
 {
     match take(alloc, files, order.job, Source::Job) {
         Err(stop) => Err(stop),
@@ -62,14 +62,13 @@ fn take<F: Files>(alloc: Global, files: &mut F, name: &str, file: Source) -> Res
 fn read_input(alloc: Global, job: &[u8], catalogue: &[u8]) -> Result<Input, Stop>
     requires job { within_length Source.Job job.now ≡ Ok job.now }
     requires catalogue { within_length Source.Catalogue catalogue.now ≡ Ok catalogue.now }
-    ensures gives { Gives (input_of job.now catalogue.now) result }
-    ensures forces { IfOk result (λ input. ForcesWithin input.job) }
+    ensures { Gives (input_of job.now catalogue.now) result }
 {
     match stock_of(alloc, catalogue) {
         Err(stop) => Err(stop),
         Ok(stock) => match job_of(alloc, job) {
             Err(stop) => Err(stop),
-            Ok(job) => Ok(Input { stock, job }),
+            Ok(case) => Ok(Input { stock, case }),
         },
     }
 }
@@ -84,11 +83,11 @@ fn stock_of(alloc: Global, bytes: &[u8]) -> Result<Stock, Stop>
     }
 }
 
-fn job_of(alloc: Global, bytes: &[u8]) -> Result<Job, Stop>
+fn job_of(alloc: Global, bytes: &[u8]) -> Result<Case, Stop>
     ensures { Gives (or_unbuilt (job_spec bytes.now)) result }
 {
     match read_job(alloc, bytes) {
-        Ok(job) => Ok(job),
+        Ok(case) => Ok(case),
         Err(JobError::Unbuilt) => Err(Stop::Fault(Fault::Unbuilt)),
         Err(JobError::Memory) => Err(Stop::Memory),
     }

@@ -78,6 +78,10 @@ module _ {A : Type 0} (v : Arithmetic A) where
   abbrev pub uncoupled : Sym3 A → Sym3 A
   uncoupled m = record m { xs = v.ratio (pos 0) (pos 1); ys = v.ratio (pos 0) (pos 1) }
 
+  -- the matrix of zeros
+  abbrev pub zeros : Sym3 A
+  zeros = let zero = v.ratio (pos 0) (pos 1) in record { xx = zero; xy = zero; yy = zero; xs = zero; ys = zero; ss = zero }
+
   -- of an item, over q0
   abbrev pub item : ℤ → Kind → Lamina → CirclePoint → Sym3 A
   item q0 Ply l d = transformed (reduced q0 l) d

@@ -1,5 +1,5 @@
 -- A table of the stiffnesses of a catalogue's items, as they are computed.
-use Rattle.std.specs.Prelude.{◌≡◌, ℕ, ◌/◌, ◌%◌, ℤ, pos, List, Some, None, slice_get}
+use Rattle.std.specs.Prelude.{◌≡◌, ℕ, ◌/◌, ◌%◌, ℤ, List, Some, None, slice_get}
 use Rattle.std.specs.declared.option.Option.{Option}
 use Rattle.lam_fraction.specs.numbers.Arithmetic.{Arithmetic}
 use Rattle.lam_fraction.specs.numbers.Numbers.{Numbers}
@@ -15,15 +15,10 @@ module _ {A : Type 0} where
   abbrev pub of_item : Arithmetic A → ℤ → Item → Sym3 A
   of_item v q0 i = by.item v q0 i.kind i.lamina i.dir
 
-  abbrev pub zeros : Arithmetic A → Sym3 A
-  zeros v =
-      let zero = v.ratio (pos 0) (pos 1) in
-      record { xx = zero; xy = zero; yy = zero; xs = zero; ys = zero; ss = zero }
-
   -- and zeros where there is no item
   abbrev pub of_place : Arithmetic A → ℤ → Option Item → Sym3 A
   of_place v q0 (Some i) = of_item v q0 i
-  of_place v q0 None = zeros v
+  of_place v q0 None = by.zeros v
 
   -- at place k of a catalogue
   abbrev pub place_value : Arithmetic A → List Item → ℕ → Sym3 A

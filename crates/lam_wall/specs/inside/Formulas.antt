@@ -46,17 +46,13 @@ module _ {A : Type 0} (v : Arithmetic A) where
     h = w.h;
   }
 
-  -- a matrix of zeros
-  abbrev pub zeros : Sym3 A
-  zeros = let zero = v.ratio (pos 0) (pos 1) in record { xx = zero; xy = zero; yy = zero; xs = zero; ys = zero; ss = zero }
-
   -- a wall of this thickness, before its first ply
   abbrev pub bare : ℤ → Wall A
-  bare h = record { a = zeros; b = zeros; d = zeros; h = h }
+  bare h = record { a = lamina.zeros v; b = lamina.zeros v; d = lamina.zeros v; h = h }
 
   -- the plies' stiffnesses, each times its share, one after the other
   abbrev pub summed : (Placed → A) → (Item → Sym3 A) → List Placed → Sym3 A
-  summed share stiffness plies = fold (λ m p. with_share m (share p) (stiffness p.item)) zeros plies
+  summed share stiffness plies = fold (λ m p. with_share m (share p) (stiffness p.item)) (lamina.zeros v) plies
 
   -- plies laid in a wall of thickness h
   abbrev pub laid : ℤ → (Item → Sym3 A) → List Placed → Wall A

@@ -1,10 +1,9 @@
 //! The analysis of the wall that a schedule word names.
 
-ghost use Rattle.std.specs.Prelude.{◌≡◌, ◌≤◌, ℕ, List, IfSome, option_map, int_le, ◌*ℤ◌};
+ghost use Rattle.std.specs.Prelude.{◌≡◌, ◌≤◌, ℕ, List, IfSome, option_map};
 ghost use Rattle.lam_stock.specs.Stock.{WithinLimits};
-ghost use Rattle.laminate.specs.Job.{ForcesWithin};
 ghost use Rattle.laminate.specs.Outside.{seen};
-ghost use Rattle.laminate.specs.Request.{IsRatioOf, force_in_range, forces_in_range, item_named, requested, single_ply};
+ghost use Rattle.laminate.specs.Request.{IsRatioOf, item_named, requested, single_ply};
 ghost use Rattle.laminate.specs.inside.Spelled.{spelled};
 ghost use Rattle.laminate.specs.inside.Steps.{Analyses, AnswersOrder};
 
@@ -12,13 +11,13 @@ use crate::analysis::{Analysis, Thousandths};
 use crate::criterion::printed_ratio;
 use crate::fault::{Fault, Stop};
 use crate::input::{Input, take_input};
-use crate::job::Job;
 use crate::turning::stress_in_ply;
 use crate::words::Order;
-use lam_fraction::machine::wide_product;
+use lam_job::{Case, resultants};
 use lam_number::Fix;
 use lam_outside::Files;
-use lam_stock::{Item, Kind, Scale, Stock};
+use lam_stock::{Item, Kind, Stock};
+use lam_wall::in_range;
 use std::alloc::Global;
 
 /// Takes the files of an order, and analyses what they and the schedule ask for.
@@ -38,17 +37,16 @@ pub fn answer<F: Files>(alloc: Global, files: &mut F, order: Order<'_>) -> Resul
     }
 }
 
-/// Analyses the wall that a schedule word names, under the load of a job.
+/// Analyses the wall that a schedule word names, under the load of the case.
 fn analyse(input: &Input, schedule: &str) -> Result<Analysis, Fault>
-    requires forces { ForcesWithin input.now.job }
     ensures { Analyses (requested schedule.now input.now) result }
 {
     match ply_of(&input.stock, schedule) {
         None => Err(Fault::Unbuilt),
         Some(item) => {
             let scale = input.stock.scale();
-            if are_in_range(&scale, item, &input.job) {
-                Ok(analysis_of(item, &input.job))
+            if in_range(&scale, item.lamina.t, &resultants(&input.case)) {
+                Ok(analysis_of(item, &input.case))
             } else {
                 Err(Fault::Unbuilt)
             }
@@ -80,43 +78,16 @@ fn item_of<'a>(stock: &'a Stock, name: &str) -> Option<&'a Item>
     }
 }
 
-/// Whether each force is at most a quarter of the stock's floor stiffness times the thickness.
-fn are_in_range(scale: &Scale, item: &Item, job: &Job) -> bool
-    ensures { result ≡ forces_in_range scale.now.floor item.now.lamina.t job.now }
-{
-    if !is_in_range(scale.floor, item.lamina.t, job.nx) {
-        return false;
-    }
-    if !is_in_range(scale.floor, item.lamina.t, job.ny) {
-        return false;
-    }
-    is_in_range(scale.floor, item.lamina.t, job.nxy)
-}
-
-fn is_in_range(floor: i64, thickness: i64, force: i64) -> bool
-    ensures { result ≡ force_in_range floor thickness force }
-{
-    if !is_at_most(4, force, floor, thickness) {
-        return false;
-    }
-    is_at_most(-4, force, floor, thickness)
-}
-
-/// Whether the product of the first two numbers is at most that of the others.
-fn is_at_most(a: i64, b: i64, c: i64, d: i64) -> bool
-    ensures { result ≡ int_le (a *ℤ b) (c *ℤ d) }
-{
-    wide_product(a, b) <= wide_product(c, d)
-}
-
-/// The analysis of a ply under the forces of a job.
-fn analysis_of(item: &Item, job: &Job) -> Analysis
+/// The analysis of a ply under the forces of a case.
+fn analysis_of(item: &Item, case: &Case) -> Analysis
     requires limits { WithinLimits item.now }
-    requires forces { ForcesWithin job.now }
     ensures cost { result.cost ≡ item.now.cost }
-    ensures ratio { IsRatioOf (record { item = item.now; job = job.now }) result.ratio.0 }
+    ensures ratio { IsRatioOf (record { item = item.now; case = case.now }) result.ratio.0 }
 {
-    let stress = stress_in_ply(&item.dir, job.nx, job.ny, job.nxy, item.lamina.t);
+    // read here, so that what holds of each case is known
+    let _kind = case.kind;
+    let load = resultants(case);
+    let stress = stress_in_ply(&item.dir, load.nx, load.ny, load.nxy, 4 * item.lamina.t);
     Analysis {
         cost: item.cost,
         ratio: Thousandths(printed_ratio::<Fix<60>>(&item.lamina, &stress)),

@@ -1,4 +1,5 @@
-use Rattle.std.proofs.Common.{◌≡◌, refl, sym, ◌∙◌, ap₂, subst, pos, ◌+ℤ◌, ◌*ℤ◌}
+use Rattle.std.proofs.Common.{refl, sym, ◌∙◌, ap₂, subst, pos, ◌+ℤ◌, ◌*ℤ◌}
+use Rattle.lam_fraction.specs.numbers.Numbers.{RatioRoom}
 use Rattle.lam_fraction.proofs.numbers.Machine.{sizes, stored-128, fits_in_128, is_exact}
 use Rattle.lam_wall.specs.inside.Parts.{IsShort}
 use Rattle.lam_wall.proofs.SharesKnown.{bending-share, share-room-at, short-share, thick-size, inner-size, outer-size, wall-size}
@@ -16,35 +17,15 @@ overflow_mul-from-2 g c = fits_in_128 (search (sizes, wall-size c.requires, c) d
 pub overflow_mul-from-3 : goal.overflow_mul-from-3
 overflow_mul-from-3 g c = fits_in_128 (search (sizes, wall-size c.requires, c) depth 30 fits 9000) refl
 
-pub of_ratio-requires-clause-positive : goal.of_ratio-requires-clause-positive
-of_ratio-requires-clause-positive g c =
-    let num : stored-128 (stored-128 c.from.result *ℤ stored-128 (stored-128 (stored-128 c.wide_product.result +ℤ stored-128 c.wide_product-2.result) +ℤ stored-128 c.wide_product-3.result)) ≡ c.args.item.now.lamina.t *ℤ (c.args.inner *ℤ c.args.inner +ℤ c.args.inner *ℤ c.args.outer +ℤ c.args.outer *ℤ c.args.outer) = is_exact (search (sizes, thick-size c.requires, inner-size c.requires, outer-size c.requires, c) depth 30 fits 9000) refl in
-    let den : stored-128 (pos 3 *ℤ stored-128 (stored-128 c.from-2.result *ℤ stored-128 c.wide_product-4.result)) ≡ pos 3 *ℤ (c.args.h *ℤ (c.args.h *ℤ c.args.h)) = is_exact (search (sizes, wall-size c.requires, c) depth 30 fits 9000) refl in
-    (share-room-at (bending-share c.requires) num den).positive
-
-pub of_ratio-requires-clause-den : goal.of_ratio-requires-clause-den
-of_ratio-requires-clause-den g c =
-    let num : stored-128 (stored-128 c.from.result *ℤ stored-128 (stored-128 (stored-128 c.wide_product.result +ℤ stored-128 c.wide_product-2.result) +ℤ stored-128 c.wide_product-3.result)) ≡ c.args.item.now.lamina.t *ℤ (c.args.inner *ℤ c.args.inner +ℤ c.args.inner *ℤ c.args.outer +ℤ c.args.outer *ℤ c.args.outer) = is_exact (search (sizes, thick-size c.requires, inner-size c.requires, outer-size c.requires, c) depth 30 fits 9000) refl in
-    let den : stored-128 (pos 3 *ℤ stored-128 (stored-128 c.from-2.result *ℤ stored-128 c.wide_product-4.result)) ≡ pos 3 *ℤ (c.args.h *ℤ (c.args.h *ℤ c.args.h)) = is_exact (search (sizes, wall-size c.requires, c) depth 30 fits 9000) refl in
-    (share-room-at (bending-share c.requires) num den).den
-
-pub of_ratio-requires-clause-num : goal.of_ratio-requires-clause-num
-of_ratio-requires-clause-num g c =
-    let num : stored-128 (stored-128 c.from.result *ℤ stored-128 (stored-128 (stored-128 c.wide_product.result +ℤ stored-128 c.wide_product-2.result) +ℤ stored-128 c.wide_product-3.result)) ≡ c.args.item.now.lamina.t *ℤ (c.args.inner *ℤ c.args.inner +ℤ c.args.inner *ℤ c.args.outer +ℤ c.args.outer *ℤ c.args.outer) = is_exact (search (sizes, thick-size c.requires, inner-size c.requires, outer-size c.requires, c) depth 30 fits 9000) refl in
-    let den : stored-128 (pos 3 *ℤ stored-128 (stored-128 c.from-2.result *ℤ stored-128 c.wide_product-4.result)) ≡ pos 3 *ℤ (c.args.h *ℤ (c.args.h *ℤ c.args.h)) = is_exact (search (sizes, wall-size c.requires, c) depth 30 fits 9000) refl in
-    (share-room-at (bending-share c.requires) num den).num
-
-pub of_ratio-requires-clause-room : goal.of_ratio-requires-clause-room
-of_ratio-requires-clause-room g c =
-    let num : stored-128 (stored-128 c.from.result *ℤ stored-128 (stored-128 (stored-128 c.wide_product.result +ℤ stored-128 c.wide_product-2.result) +ℤ stored-128 c.wide_product-3.result)) ≡ c.args.item.now.lamina.t *ℤ (c.args.inner *ℤ c.args.inner +ℤ c.args.inner *ℤ c.args.outer +ℤ c.args.outer *ℤ c.args.outer) = is_exact (search (sizes, thick-size c.requires, inner-size c.requires, outer-size c.requires, c) depth 30 fits 9000) refl in
-    let den : stored-128 (pos 3 *ℤ stored-128 (stored-128 c.from-2.result *ℤ stored-128 c.wide_product-4.result)) ≡ pos 3 *ℤ (c.args.h *ℤ (c.args.h *ℤ c.args.h)) = is_exact (search (sizes, wall-size c.requires, c) depth 30 fits 9000) refl in
-    (share-room-at (bending-share c.requires) num den).room
+pub of_ratio-requires : goal.of_ratio-requires
+of_ratio-requires g c =
+    let room : RatioRoom (stored-128 (stored-128 c.from.result *ℤ stored-128 (stored-128 (stored-128 c.wide_product.result +ℤ stored-128 c.wide_product-2.result) +ℤ stored-128 c.wide_product-3.result))) (stored-128 (pos 3 *ℤ stored-128 (stored-128 c.from-2.result *ℤ stored-128 c.wide_product-4.result))) =
+    share-room-at (bending-share c.requires) (is_exact (search (sizes, thick-size c.requires, inner-size c.requires, outer-size c.requires, c) depth 30 fits 9000) refl) (is_exact (search (sizes, wall-size c.requires, c) depth 30 fits 9000) refl) in
+    record { positive = room.positive; den = room.den; num = room.num; room = room.room }
 
 pub returns-clause-value : goal.returns-clause-value
 returns-clause-value g c =
-    let num : stored-128 (stored-128 c.from.result *ℤ stored-128 (stored-128 (stored-128 c.wide_product.result +ℤ stored-128 c.wide_product-2.result) +ℤ stored-128 c.wide_product-3.result)) ≡ c.args.item.now.lamina.t *ℤ (c.args.inner *ℤ c.args.inner +ℤ c.args.inner *ℤ c.args.outer +ℤ c.args.outer *ℤ c.args.outer) = is_exact (search (sizes, thick-size c.requires, inner-size c.requires, outer-size c.requires, c) depth 30 fits 9000) refl in
-    let den : stored-128 (pos 3 *ℤ stored-128 (stored-128 c.from-2.result *ℤ stored-128 c.wide_product-4.result)) ≡ pos 3 *ℤ (c.args.h *ℤ (c.args.h *ℤ c.args.h)) = is_exact (search (sizes, wall-size c.requires, c) depth 30 fits 9000) refl in
-    c.of_ratio.ensures ∙ ap₂ g.N.Enclosure.numbers.calc.ratio num den
+    c.of_ratio.ensures ∙ ap₂ g.N.Enclosure.numbers.calc.ratio (is_exact (search (sizes, thick-size c.requires, inner-size c.requires, outer-size c.requires, c) depth 30 fits 9000) refl) (is_exact (search (sizes, wall-size c.requires, c) depth 30 fits 9000) refl)
 
 pub returns-clause-short : goal.returns-clause-short
 returns-clause-short g c = subst (IsShort g.N.Enclosure.numbers) (sym (returns-clause-value g c)) (short-share g.met.N.Enclosure.laws (bending-share c.requires))

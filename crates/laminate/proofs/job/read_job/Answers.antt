@@ -14,6 +14,6 @@ returns-in-Ok-clause-refused c =
     λ _. job_of-read c.args.bytes.now (table_view c.in-Ok.table) c.in-Ok.ensures.ok.0 c.in-Ok.ensures.ok.1
     ∙ (sym c.read_table.ensures ∙ c.in-None.is)
 
-pub returns-else-is_memory-clause-refused : goal.returns-else-is_memory-clause-refused
-returns-else-is_memory-clause-refused c =
+pub returns-clause-refused : goal.returns-clause-refused
+returns-clause-refused c =
     λ _. job_of-refused c.args.bytes.now (c.in-Err.ensures.refused (λ m. false≢true (rw c.if-is_memory.false at (c.is_memory.ensures.1 m))))

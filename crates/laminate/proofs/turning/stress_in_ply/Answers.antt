@@ -9,7 +9,7 @@ use Rattle.laminate.proofs.TurnedStress.{over_positive, turned_is}
 use Rattle.laminate.proofs.turning.stress_in_ply.Goals as goal
 
 -- the common denominator
-over : (d : CirclePoint) (h t r : ℤ) → IsDirection d → h ≡ d.h → pos 0 <ℤ t → t ≤ℤ pos 20000
+over : (d : CirclePoint) (h t r : ℤ) → IsDirection d → h ≡ d.h → pos 0 <ℤ t → t ≤ℤ pos 80000
     → r ≡ (stored-64 h *ℤ stored-64 h) *ℤ stored-64 t → stored-64 r ≡ (d.h *ℤ d.h) *ℤ t
 over d h t r direction same thick thin e =
     let least : pos 1 ≤ℤ t = omega (arith, ints, thick) in
