@@ -21,3 +21,19 @@ pub mod Places
 -- sums of thicknesses in machine numbers
 pub mod ThicknessSteps
 pub mod BrokenRules
+-- lists and tables of a TOML document
+pub mod Documents
+-- the fault of a row, by what stands at its key
+pub mod Rows
+-- loops over the members of a list
+pub mod Passing
+-- the bits of a set of items
+pub mod Sets
+-- a case once its kind is known
+pub mod CaseRows
+-- the keys of counts are apart, and so no more than the items
+pub mod Counted
+-- the bytes of a job
+pub mod JobBytes
+-- jobs as tables, tried key by key
+pub mod JobOfTrials

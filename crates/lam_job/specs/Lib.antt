@@ -12,4 +12,6 @@ pub mod Rules  -- the nine rules
 pub mod Design  -- what may be built, and what is least
 pub mod Near  -- what rounded numbers may not decide
 pub mod Partial  -- a length and the first plies
+pub mod Keys  -- the keys of its file, and what stands at each
+pub mod JobOf  -- what the bytes of its file mean
 pub mod inside  -- words that calls need and nobody has to believe

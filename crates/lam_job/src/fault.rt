@@ -1,5 +1,9 @@
 // Why a job is refused.
 
+ghost use Rattle.std.specs.Prelude.{◌≡◌};
+ghost use Rattle.lam_job.specs.declared.fault.JobError.TheVariants as error;
+
+use std::alloc::AllocFailed;
 use thiserror::Error;
 
 /// A table of a job.
@@ -27,7 +31,7 @@ pub enum JobKey {
     Version,
     Limit,
     Plies,
-    OffAxis,
+    InWall,
     Inner,
     Outer,
     Symmetric,
@@ -99,4 +103,20 @@ pub enum JobError {
     /// Memory ran out.
     #[error("Memory")]
     Memory,
+}
+
+impl From<JobFault> for JobError {
+    ghost from_gives = { λ fault e. e ≡ error.Refused fault };
+
+    fn from(fault: JobFault) -> JobError {
+        JobError::Refused(fault)
+    }
+}
+
+impl<T: Drop> From<AllocFailed<T>> for JobError {
+    ghost from_gives = { λ _ e. e ≡ error.Memory };
+
+    fn from(_failed: AllocFailed<T>) -> JobError {
+        JobError::Memory
+    }
 }

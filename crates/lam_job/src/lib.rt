@@ -9,6 +9,7 @@ mod panel; // a panel that must not buckle
 mod rules; // what the listed plies have to keep
 mod job; // all of it
 mod fault; // why a job is refused, and where
+mod reading; // the bytes of a job, read
 
 pub use case::{Case, CaseKind};
 pub use entries::Entries;
@@ -17,10 +18,11 @@ pub use job::Job;
 pub use limits::{
     GREATEST_ASKED_THICKNESS, GREATEST_DIAMETER, GREATEST_FACTOR, GREATEST_FORCE, GREATEST_MOMENT,
     GREATEST_PANEL_LOAD, GREATEST_PRESSURE, GREATEST_SIDE, GREATEST_WALL_THICKNESS, LEAST_FACTOR,
-    LEAST_SIDE, MOST_CASES, MOST_LINER_PLIES, MOST_PANELS, MOST_PLIES, MOST_WALL_PLIES,
+    LEAST_SIDE, MOST_CASES, MOST_LINER_PLIES, MOST_NAMES, MOST_PANELS, MOST_PLIES, MOST_WALL_PLIES,
 };
 pub use load::{Load, resultants};
 pub use panel::Panel;
+pub use reading::read_job;
 pub use rules::{ItemSet, RuleSet};
 
 #[cfg(test)]

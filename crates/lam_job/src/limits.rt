@@ -15,6 +15,9 @@ pub const GREATEST_WALL_THICKNESS: i64 = 1_280_000;
 /// The greatest thickness in µm that a job may ask of a wall.
 pub const GREATEST_ASKED_THICKNESS: i64 = 2_000_000;
 
+/// The most names of a set of items.
+pub const MOST_NAMES: usize = 64;
+
 /// The most cases of a job.
 pub const MOST_CASES: usize = 16;
 
