@@ -1,0 +1,6 @@
+use Rattle.std.proofs.Common.{ap, ◌∙◌}
+use Rattle.clap.specs.Words.{Rule, rule_of}
+use Rattle.lam_words.proofs.command.positional.Goals as goal
+
+pub returns-clause-rule : goal.returns-clause-rule
+returns-clause-rule c = ap rule_of c.required.ensures ∙ ap (λ (r : Rule). record r { required = c.args.required }) c.new.ensures.rule
