@@ -1,0 +1,14 @@
+-- whole numbers, cut and rounded
+pub mod Steps
+-- what the calls need of their arguments
+pub mod Parts
+-- formulas over any arithmetic
+pub mod Formulas
+-- the residual of a centre
+pub mod Residual
+-- the strains round a centre
+pub mod Enclosed
+-- the elimination of a wall's unknowns
+pub mod Elimination
+-- turns of refinement
+pub mod Solution
