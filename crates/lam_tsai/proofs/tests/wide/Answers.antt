@@ -1,0 +1,12 @@
+use Rattle.std.proofs.Common.{refl}
+use Rattle.lam_fraction.proofs.numbers.Rooms.{rooms, reach_room}
+use Rattle.lam_tsai.proofs.tests.wide.Goals as goal
+
+pub hull-requires-clause-first : goal.hull-requires-clause-first
+hull-requires-clause-first g c = reach_room g.met.N.Enclosure.laws (search (rooms, c) depth 20 fits 9000) refl
+
+pub hull-requires-clause-second : goal.hull-requires-clause-second
+hull-requires-clause-second g c = reach_room g.met.N.Enclosure.laws (search (rooms, c) depth 20 fits 9000) refl
+
+pub returns : goal.returns
+returns g c = reach_room g.met.N.Enclosure.laws (search (rooms, c) depth 20 fits 9000) refl
