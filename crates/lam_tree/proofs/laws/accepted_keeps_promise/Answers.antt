@@ -1,0 +1,5 @@
+use Rattle.lam_tree.proofs.Promised.{promised_by}
+use Rattle.lam_tree.proofs.laws.accepted_keeps_promise.Goals as goal
+
+pub returns : goal.returns
+returns c = promised_by
