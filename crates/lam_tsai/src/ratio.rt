@@ -1,11 +1,14 @@
 // The strength ratio that is printed for a ply.
 
 ghost use Rattle.std.specs.Prelude.{◌≡◌, ◌⊎◌, ◌+◌, ◌<◌, ◌≤◌, true, false, IfSome};
+ghost use Rattle.lam_stock.specs.declared.item.Item.{Item};
+ghost use Rattle.lam_stock.specs.declared.scale.Scale.{Scale};
 ghost use Rattle.lam_tsai.specs.FaceStrains.{IsWithinSix};
 ghost use Rattle.lam_tsai.specs.Listed.{IsItemOf};
 ghost use Rattle.lam_tsai.specs.Ratios.{HasRatio};
 ghost use Rattle.lam_tsai.specs.inside.Halving as by;
 ghost use Rattle.lam_tsai.specs.inside.Reach.{ReachCriterion, ReachStress};
+ghost use Rattle.lam_tsai.specs.inside.Values as values;
 
 use crate::components::Components;
 use crate::criterion::Criterion;
@@ -40,7 +43,7 @@ pub fn printed_ratio<N: Enclosure>(
 }
 
 impl<N: Enclosure> Criterion<N> {
-    /// The same by a criterion that was made before.
+    /// The same by a criterion that was made before, so that it is made but once for many faces.
     pub fn ratio(&self, inner: &FaceStrain<N>, outer: &FaceStrain<N>) -> u16
         requires made { ReachCriterion N.numbers self.now }
         requires inner { IsWithinSix N.numbers inner.now }
@@ -50,6 +53,14 @@ impl<N: Enclosure> Criterion<N> {
         ensures next { result < 20000
             → by.meets_at N.numbers self.now inner.now outer.now (result + 1) ≡ false }
         ensures value { result ≡ by.ratio_by N.numbers self.now inner.now outer.now }
+        ensures same { (s : Scale) (i : Item) → self.now ≡ values.criterion N.numbers s i
+            → result ≡ by.printed_ratio N.numbers i s inner.now outer.now }
+        ensures all_meet { (s : Scale) (i : Item) → self.now ≡ values.criterion N.numbers s i
+            → (result ≡ 0) ⊎ by.AllMeet N.numbers i s inner.now outer.now result }
+        ensures not_next { (s : Scale) (i : Item) → self.now ≡ values.criterion N.numbers s i
+            → result < 20000 → ¬ by.AllMeet N.numbers i s inner.now outer.now (result + 1) }
+        ensures ratio { (s : Scale) (i : Item) → IsItemOf s i → self.now ≡ values.criterion N.numbers s i
+            → HasRatio N.numbers i inner.now outer.now result }
     {
         let inner_stresses = face_stresses(self, inner);
         let outer_stresses = face_stresses(self, outer);
