@@ -14,3 +14,5 @@ pub mod Parts
 pub mod Thickest
 -- what is visibly broken is broken by every completion
 pub mod VisibleBreaks
+-- what one more ply adds to a partial schedule
+pub mod Growth

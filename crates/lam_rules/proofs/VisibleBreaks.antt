@@ -64,7 +64,7 @@ counts_too_few asked fixed listed places most few kept =
     omega (arith, enough, least, less)
 
 -- what is among some plies is among more
-slanted_kept : (items more : List Item) → Any IsSlanted items → Any IsSlanted (items ++ more)
+pub slanted_kept : (items more : List Item) → Any IsSlanted items → Any IsSlanted (items ++ more)
 slanted_kept items more some =
     let long = length-append items more in
     let within = some.2 in

@@ -8,8 +8,11 @@ mod thickness; // how thick a wall is
 mod rules; // the nine rules
 mod partial; // a length and the first plies
 mod visible_breaks; // the rules that a partial schedule visibly breaks
+mod step; // the running numbers of a partial schedule
+mod growing; // a partial schedule that grows and shrinks at its end
 
-pub use partial::{Partial, complete, half};
+pub use growing::Growing;
+pub use partial::{Partial, complete, fixed_plies, half};
 pub use rule::RuleNo;
 pub use rules::breaks;
 pub use visible_breaks::visible;

@@ -1,13 +1,13 @@
 // A partial schedule.
 
-ghost use Rattle.std.specs.Prelude.{◌≡◌, ◌≤◌, ◌-◌, ◌⊎◌, List, length};
+ghost use Rattle.std.specs.Prelude.{◌≡◌, ◌≤◌, ◌<◌, ◌-◌, ◌⊎◌, ◌↔◌, [], List, length, IsNone, IfNone, IfSome};
 ghost use Rattle.lam_stock.specs.declared.item.Item.{Item};
 ghost use Rattle.lam_stock.specs.declared.item.ItemNo.{ItemNo};
 ghost use Rattle.lam_stock.specs.Stock.{IsKnown};
-ghost use Rattle.lam_job.specs.Partial.{Completes, IsFull, half as half_spec, fixed_plies as fixed_spec, completion};
+ghost use Rattle.lam_job.specs.Partial.{Completes, IsFull, child, half as half_spec, fixed_plies as fixed_spec, completion};
 
 use lam_job::{Job, MOST_PLIES};
-use lam_stock::Stack;
+use lam_stock::{ItemNo, Stack};
 use std::marker::Model;
 
 /// How many plies a schedule lists, and the first of them, from the inside on. It stands for all
@@ -27,6 +27,33 @@ impl Model for Partial {
     ghost Value = { spec.Partial };
 
     ghost view = { λ p. record { n = p.n; prefix = p.prefix } };
+}
+
+impl Partial {
+    /// How many plies are settled.
+    pub fn settled(&self) -> u8
+        ensures value { result ≡ length self.now.prefix }
+        ensures few { result ≤ 64 }
+    {
+        self.prefix.items().len() as u8
+    }
+
+    /// Adds a ply at the end of the prefix.
+    pub fn push(&mut self, ply: ItemNo)
+        requires { length self.old.prefix < 64 }
+        ensures { self.new ≡ child self.old ply }
+    {
+        self.prefix.push(ply);
+    }
+
+    /// Takes the last ply of the prefix off, if there is one.
+    pub fn pop(&mut self) -> Option<ItemNo>
+        ensures none { IsNone result ↔ (self.old.prefix ≡ []) }
+        ensures empty { IfNone result (self.new ≡ self.old) }
+        ensures last { IfSome result (λ ply. self.old ≡ child self.new ply) }
+    {
+        self.prefix.pop()
+    }
 }
 
 /// How many plies settle a schedule of n plies: where symmetric ones are asked, half of them and

@@ -1,10 +1,10 @@
 //! The rules on worked schedules and partial schedules.
 
-ghost use Rattle.std.specs.Prelude.{◌≤◌, ◌<◌, length, All, IfSome, IfOk, IsTrue};
+ghost use Rattle.std.specs.Prelude.{◌≡◌, ◌≤◌, ◌<◌, length, All, IfSome, IfOk, IsTrue};
 ghost use Rattle.lam_stock.specs.Stock.{IsKnown};
 ghost use Rattle.lam_job.specs.Ranges.{IsPlyNumber, IsAskedThickness};
 
-use crate::{Partial, RuleNo, breaks, complete, half, visible};
+use crate::{Growing, Partial, RuleNo, breaks, complete, half, visible};
 use lam_job::{Case, CaseKind, Entries, ItemSet, Job, Panel, RuleSet};
 use lam_stock::{ItemNo, Stack, Stock, read_stock};
 use std::alloc::Global;
@@ -206,7 +206,43 @@ fn seen(alloc: Global, job: &Job, stock: &Stock, n: u8, numbers: &[u8]) -> u8 {
         return 99;
     }
     let prefix = plies(alloc, stock, numbers, half(job, n));
-    number(visible(job, stock, &Partial { n, prefix }))
+    let rule = number(visible(job, stock, &Partial { n, prefix }));
+    if number(walked(alloc, job, stock, n, numbers).visible()) != rule {
+        return 98;
+    }
+    rule
+}
+
+// the partial schedule after a walk that looks at the twin behind each ply
+fn walked<'a>(alloc: Global, job: &'a Job, stock: &'a Stock, n: u8, numbers: &[u8]) -> Growing<'a>
+    requires liner { IsKnown stock.now job.now.liner }
+    requires some { 1 ≤ n }
+    requires few { n ≤ 56 }
+{
+    let mut growing = Growing::new(alloc, job, stock, n);
+    for ply in numbers {
+        grow(&mut growing, job, stock, *ply);
+        if grow(&mut growing, job, stock, 6) {
+            growing.pop();
+        }
+    }
+    growing
+}
+
+// adds a ply where there is room for it
+fn grow(growing: &mut Growing<'_>, job: &Job, stock: &Stock, ply: u8) -> bool
+    requires stock { growing.old.stock ≡ stock.now }
+    requires job { growing.old.job ≡ job.now }
+    ensures stock { growing.new.stock ≡ stock.now }
+    ensures job { growing.new.job ≡ job.now }
+{
+    let partial = growing.partial();
+    let settled = partial.settled();
+    if settled < half(job, partial.n) && (ply as usize) < stock.items().len() {
+        growing.push(ItemNo(ply));
+        return true;
+    }
+    false
 }
 
 // tells whether each list breaks the rule beside it

@@ -58,8 +58,9 @@ fn shows(number: u8, job: &Job, stock: &Stock, partial: &Partial) -> bool
     }
 }
 
-// inner, and outer where schedules are symmetric: the first ply is not in the set
-fn starts_wrong(asked: Option<ItemSet>, stock: &Stock, prefix: &[ItemNo]) -> bool
+/// Tells whether there is a first ply that is not in a set: inner, and outer where schedules are
+/// symmetric.
+pub fn starts_wrong(asked: Option<ItemSet>, stock: &Stock, prefix: &[ItemNo]) -> bool
     requires known { IsKnown stock.now prefix.now }
     ensures { IsTrue result ↔ StartsWrong asked prefix.now }
 {
@@ -81,8 +82,8 @@ fn runs_too_long(asked: Option<u8>, prefix: &[ItemNo]) -> bool
     }
 }
 
-// fewest: there are too few places
-fn has_too_few(asked: Option<u8>, n: u8) -> bool
+/// Tells whether there are too few places: fewest.
+pub fn has_too_few(asked: Option<u8>, n: u8) -> bool
     ensures { IsTrue result ↔ HasTooFew asked n }
 {
     match asked {
@@ -91,8 +92,8 @@ fn has_too_few(asked: Option<u8>, n: u8) -> bool
     }
 }
 
-// thickness: the wall is too thin, however thick it gets
-fn stays_too_thin(asked: Option<i64>, most: i64) -> bool
+/// Tells whether a wall is too thin, however thick it gets: thickness.
+pub fn stays_too_thin(asked: Option<i64>, most: i64) -> bool
     ensures { IsTrue result ↔ IsSomeAnd asked (λ least. most <ℤ least) }
 {
     match asked {
