@@ -1,28 +1,24 @@
 -- Acceptance, tried on the report of a worked job: one ply of `mat` under 90000 N/m at a factor of 5, of at most four plies.
 -- Each planted mistake is found at its line.
-use Rattle.std.proofs.Common.{◌≡◌, ◌≢◌, refl, sym, ◌∙◌, ap, subst, ℕ, zero, suc, ◌≤◌, ◌<◌, ◌<ℤ◌, inl, inr, List, [], ◌∷◌, ◌++◌, length, slice_get, All, Option, Some, None, lit≤, lit<, true, false, arith}
+use Rattle.std.proofs.Common.{◌≡◌, refl, subst, ℕ, zero, suc, ◌≤◌, ◌<◌, inl, inr, [], ◌∷◌, slice_get, All, Option, Some, None, lit≤, arith}
 use Rattle.std.proofs.lemmas.List.Elements.{All-from_recursion}
 use Rattle.std.proofs.lemmas.Option.{same_Some}
-use Rattle.lam_stock.specs.declared.item.ItemNo.{ItemNo}
 use Rattle.lam_job.specs.JobData.{CaseData}
-use Rattle.lam_job.specs.Rules.{Rule, InnerRule, OuterRule, SymmetricRule, BalancedRule, RunRule, FewestRule, ThicknessRule, CountsRule, FitnessRule}
-use Rattle.lam_job.specs.Partial.{Partial, SeemsWell, VisiblyBreaksRule}
+use Rattle.lam_job.specs.Rules.{InnerRule, OuterRule, SymmetricRule, BalancedRule, RunRule, FewestRule, ThicknessRule, CountsRule, FitnessRule}
+use Rattle.lam_job.specs.Partial.{Partial, SeemsWell}
 use Rattle.lam_job.proofs.Worked.{number, hoop_case}
-use Rattle.lam_support.specs.declared.weight.Weight.{Weight}
-use Rattle.lam_tree.specs.declared.node.Node.{Node}
 use Rattle.lam_tree.specs.declared.node.Word.{Word}
 use Rattle.lam_tree.specs.declared.node.Word.TheVariants as word
 use Rattle.lam_tree.specs.declared.report.Best.{Best}
 use Rattle.lam_tree.specs.declared.report.Near.{Near}
-use Rattle.lam_tree.specs.declared.report.Answer.{Answer}
 use Rattle.lam_tree.specs.declared.report.Answer.TheVariants as answer
 use Rattle.lam_tree.specs.declared.report.Report.{Report}
-use Rattle.lam_tree.specs.Reading.{Stray, Whole, children, tree, lengths, root}
+use Rattle.lam_tree.specs.Reading.{children, tree, lengths, root}
 use Rattle.lam_tree.specs.Tests.{Tests}
 use Rattle.lam_tree.specs.TriedWeights.{tried_weights}
-use Rattle.lam_tree.specs.ForceBalance.{IsShort, net_cost}
-use Rattle.lam_tree.specs.Closings.{IsBelow, MaySplit, IsOpenUnder}
-use Rattle.lam_tree.specs.Findings.{Cause, WrongCost, NotAdmissible, WrongRatio, NotNear, OutOfOrder, UnlawfulSplit, WrongLeaf, WrongBudget, WrongAnswer, Fault}
+use Rattle.lam_tree.specs.ForceBalance.{IsShort}
+use Rattle.lam_tree.specs.Closings.{MaySplit, IsOpenUnder}
+use Rattle.lam_tree.specs.Findings.{Cause, WrongCost, WrongRatio, NotNear, OutOfOrder, UnlawfulSplit, WrongLeaf, WrongBudget, WrongAnswer, Fault}
 use Rattle.lam_tree.specs.Checks.{BestChecks, RatioChecks, PanelChecks, LineChecks, Accepts, IsFirstFault}
 use Rattle.lam_tree.proofs.ReadingTrials.{only_mat, job, at_length, at_item, least_tree, tie}
 

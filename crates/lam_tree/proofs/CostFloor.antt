@@ -1,17 +1,15 @@
 -- No completion of a partial schedule costs less than its floor.
-use Rattle.std.proofs.Common.{◌≡◌, refl, sym, ◌∙◌, ap, subst, ℕ, zero, suc, ◌+◌, ◌*◌, ◌-◌, ◌<◌, ◌≤◌, min, List, [], ◌∷◌, ◌++◌, length, fold, sum_by, All, slice_get, Option, Some, None, Bool, true, false, arith}
-use Rattle.std.proofs.lemmas.Bool.{cases_order}
-use Rattle.std.proofs.lemmas.List.{append_assoc, length-append}
+use Rattle.std.proofs.Common.{◌≡◌, ◌∙◌, ap, subst, ℕ, suc, ◌+◌, ◌*◌, ◌≤◌, min, List, [], ◌∷◌, ◌++◌, length, fold, sum_by, All, arith}
 use Rattle.std.proofs.lemmas.List.Elements.{All-head, All-tail, All-cons, All-nil}
 use Rattle.std.proofs.lemmas.List.Sums.{sum_by-append}
 use Rattle.lam_stock.specs.declared.item.Item.{Item}
 use Rattle.lam_stock.specs.declared.item.ItemNo.{ItemNo}
 use Rattle.lam_stock.specs.Stock.{IsKnown}
 use Rattle.lam_job.specs.JobData.{JobData}
-use Rattle.lam_job.specs.Schedule.{items_of, whole_schedule, cost_of}
+use Rattle.lam_job.specs.Schedule.{items_of, cost_of}
 use Rattle.lam_job.specs.Partial.{Partial, Completes, fixed_plies, open_places, cheapest, cost_floor}
 use Rattle.lam_job.proofs.Listed.{items_of-append, items_of-all, items_of-length}
-use Rattle.lam_rules.proofs.Parts.{InParts, mirror_images, fixed_in_parts, completion_in_parts}
+use Rattle.lam_rules.proofs.Parts.{mirror_images, fixed_in_parts, completion_in_parts}
 
 -- ---- the cheapest item
 

@@ -1,6 +1,6 @@
 -- A whole tree covers: each schedule that a search ranges over completes a partial that a leaf closes.
-use Rattle.std.proofs.Common.{◌≡◌, ◌≢◌, refl, sym, ◌∙◌, ap, subst, ℕ, zero, suc, ◌+◌, ◌-◌, ◌/◌, ◌<◌, ◌≤◌, ◌⊎◌, inl, inr, List, [], ◌∷◌, ◌++◌, length, take, get_or, Option, Some, None, Bool, true, false, IsTrue, arith}
-use Rattle.std.proofs.lemmas.Bool.{cases_eq, eqb-true}
+use Rattle.std.proofs.Common.{◌≡◌, ◌≢◌, refl, sym, ◌∙◌, ap, subst, ℕ, zero, suc, ◌+◌, ◌<◌, ◌≤◌, ◌⊎◌, inl, inr, List, [], ◌∷◌, ◌++◌, length, take, get_or, Option, Some, None, Bool, true, false, IsTrue, arith}
+use Rattle.std.proofs.lemmas.Bool.{cases_eq}
 use Rattle.std.proofs.lemmas.List.{take_more, length_push}
 use Rattle.std.proofs.lemmas.List.Elements.{All-get_or}
 use Rattle.lam_stock.specs.declared.item.Item.{Item}
@@ -10,13 +10,11 @@ use Rattle.lam_job.specs.Rules.{IsPalindrome}
 use Rattle.lam_job.specs.Design.{IsSequence}
 use Rattle.lam_job.specs.Partial.{Partial, Completes, half_of, half, child}
 use Rattle.lam_tree.specs.declared.node.Node.{Node}
-use Rattle.lam_tree.specs.declared.node.Seat.{Seat}
-use Rattle.lam_tree.specs.declared.node.Seat.TheVariants as seat
 use Rattle.lam_tree.specs.declared.node.Word.{Word}
 use Rattle.lam_tree.specs.declared.node.Word.TheVariants as word
 use Rattle.lam_tree.specs.Reading.{Visit, Ending, Cut, Stray, Whole, Reading, ends, visit, root, none_had, and_had, due_item, is_due_length, children, tree, lengths, read}
-use Rattle.lam_tree.proofs.Equations.{split_or_leaf, below, tree-split, tree-full, tree-leaf, children-none, children-cut, children-due, children-stray, lengths-whole, lengths-over, lengths-cut, lengths-due, lengths-stray}
-use Rattle.lam_tree.proofs.Had.{not_had, not_had-none, had_other, not_had-one, IsDue, due}
+use Rattle.lam_tree.proofs.Equations.{split_or_leaf, below, tree-split, tree-full, tree-leaf, children-none, children-cut, children-due, children-stray, lengths-cut, lengths-due, lengths-stray}
+use Rattle.lam_tree.proofs.Had.{not_had, not_had-none, had_other, not_had-one, due}
 
 -- ---- what covers
 

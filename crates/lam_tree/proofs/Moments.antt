@@ -1,8 +1,8 @@
 -- Lines that were sound at their moment are sound for the cost that is found in the end, since the incumbent only falls.
-use Rattle.std.proofs.Common.{◌≡◌, ◌≢◌, refl, sym, ◌∙◌, ap, subst, ℕ, zero, suc, ◌≤◌, ◌<◌, ◌⊎◌, inl, inr, List, [], ◌∷◌, slice_get, Option, Some, None, IsSomeAnd, arith}
+use Rattle.std.proofs.Common.{ℕ, suc, ◌⊎◌, inl, inr, List, [], ◌∷◌, slice_get, Option, Some, None, IsSomeAnd}
 use Rattle.lam_stock.specs.declared.item.Item.{Item}
 use Rattle.lam_job.specs.JobData.{JobData, CaseData}
-use Rattle.lam_job.specs.Partial.{Partial, completion, cost_floor}
+use Rattle.lam_job.specs.Partial.{Partial, cost_floor}
 use Rattle.lam_tree.specs.declared.node.Word.{Word}
 use Rattle.lam_tree.specs.declared.node.Word.TheVariants as word
 use Rattle.lam_tree.specs.Reading.{Visit}

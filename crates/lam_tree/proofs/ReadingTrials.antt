@@ -1,13 +1,11 @@
 -- The reading of trees, tried on the trees of worked jobs: one item `mat` of cost 10, whose schedules are not symmetric.
-use Rattle.std.proofs.Common.{◌≡◌, ◌≢◌, refl, ℕ, List, [], ◌∷◌, ◌++◌, length, pos, Option, Some, None, true}
+use Rattle.std.proofs.Common.{◌≡◌, refl, ℕ, List, [], ◌∷◌, ◌++◌, length, Some, true}
 use Rattle.lam_stock.specs.declared.item.Item.{Item}
 use Rattle.lam_stock.specs.declared.item.ItemNo.{ItemNo}
 use Rattle.lam_job.specs.JobData.{JobData}
-use Rattle.lam_job.specs.Partial.{Partial}
 use Rattle.lam_job.proofs.Worked.{mat, number, hoop_case, no_rules, plain_job}
 use Rattle.lam_tsai.specs.declared.place.FaceSide.TheVariants.{Inner}
 use Rattle.lam_tsai.specs.declared.place.Side.TheVariants.{Plus}
-use Rattle.lam_tsai.specs.declared.place.Place.{Place}
 use Rattle.lam_tree.specs.declared.spot.Spot.{Spot}
 use Rattle.lam_tree.specs.declared.spot.Spot.TheVariants as spot
 use Rattle.lam_tree.specs.declared.node.Node.{Node}
@@ -15,7 +13,7 @@ use Rattle.lam_tree.specs.declared.node.Seat.TheVariants as seat
 use Rattle.lam_tree.specs.declared.node.Word.{Word}
 use Rattle.lam_tree.specs.declared.node.Word.TheVariants as word
 use Rattle.lam_tree.specs.declared.report.Answer.TheVariants as answer
-use Rattle.lam_tree.specs.Reading.{Visit, Ending, Cut, Stray, Whole, Reading, children, tree, lengths, read}
+use Rattle.lam_tree.specs.Reading.{Visit, Ending, Cut, Stray, Whole, children, tree, lengths, read}
 use Rattle.lam_tree.specs.Checks.{final, answer_of}
 
 abbrev pub only_mat : List Item

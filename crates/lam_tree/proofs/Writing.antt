@@ -1,15 +1,14 @@
 -- What a walk writes is read as what it visited: trees, the children of a split and lengths, whole or cut, put together.
-use Rattle.std.proofs.Common.{◌≡◌, ◌≢◌, refl, sym, ◌∙◌, ap, subst, ℕ, zero, suc, ◌+◌, List, [], ◌∷◌, ◌++◌, Option, Some, None, Bool, true}
+use Rattle.std.proofs.Common.{◌≡◌, ◌≢◌, refl, sym, ◌∙◌, ap, ℕ, zero, suc, List, [], ◌∷◌, ◌++◌, Some, Bool, true}
 use Rattle.std.proofs.lemmas.List.{append_assoc, append-nil}
 use Rattle.lam_stock.specs.declared.item.ItemNo.{ItemNo}
 use Rattle.lam_job.specs.JobData.{JobData}
 use Rattle.lam_job.specs.Partial.{Partial, half, child}
 use Rattle.lam_tree.specs.declared.node.Node.{Node}
-use Rattle.lam_tree.specs.declared.node.Seat.{Seat}
 use Rattle.lam_tree.specs.declared.node.Seat.TheVariants as seat
 use Rattle.lam_tree.specs.declared.node.Word.{Word}
 use Rattle.lam_tree.specs.declared.node.Word.TheVariants as word
-use Rattle.lam_tree.specs.Reading.{Visit, Ending, Cut, Stray, Whole, Reading, ends, visit, root, none_had, and_had, due_item, is_due_length, children, tree, lengths}
+use Rattle.lam_tree.specs.Reading.{Visit, Cut, Whole, Reading, ends, visit, root, none_had, and_had, due_item, is_due_length, children, tree, lengths}
 use Rattle.lam_tree.proofs.Equations.{below, tree-split, tree-leaf, children-none, children-cut, children-due, lengths-whole, lengths-cut, lengths-due}
 
 -- some visits, and then what a reading answers

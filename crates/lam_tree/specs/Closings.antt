@@ -1,16 +1,12 @@
 -- When a word closes a partial schedule, and when a split is lawful, as a checker finds it.
 use Rattle.std.specs.Prelude.{◌≡◌, ℕ, ◌≤◌, ◌<◌, ◌⊎◌, pos, List, [], ◌∷◌, slice_get, All, Option, Some, None, IsTrue, IfSome, IsSomeAnd, min}
 use Rattle.lam_stock.specs.declared.item.Item.{Item}
-use Rattle.lam_stock.specs.declared.item.ItemNo.{ItemNo}
-use Rattle.lam_job.specs.declared.case.CaseKind.{CaseKind}
-use Rattle.lam_job.specs.declared.case.CaseKind.TheVariants.{Resultants, Cylinder}
 use Rattle.lam_job.specs.JobData.{JobData, CaseData}
 use Rattle.lam_job.specs.Rules.{LinerCarries, IsLeastBroken}
 use Rattle.lam_job.specs.Schedule.{cost_of}
 use Rattle.lam_job.specs.LoadOf.{load_of}
 use Rattle.lam_job.specs.Partial.{Partial, IsFull, SeemsWell, completion, cost_floor}
 use Rattle.lam_rules.specs.LeastVisible.{IsLeastVisible}
-use Rattle.lam_support.specs.declared.weight.Weight.{Weight}
 use Rattle.lam_tree.specs.TriedWeights.{tried_weights}
 use Rattle.lam_tree.specs.declared.node.Word.{Word}
 use Rattle.lam_tree.specs.declared.node.Word.TheVariants as word

@@ -1,10 +1,10 @@
 -- What a balance of weighted forces says of all completions of a partial schedule: whether their plies can carry the load of
 -- a case, and what it costs at least where they do. The layer of an item carries so much of a weighted force: its capacity.
-use Rattle.std.specs.Prelude.{ℕ, ◌+◌, ◌-◌, ◌*◌, ◌/◌, ◌^◌, nat_le, max, min, ℤ, pos, ◌+ℤ◌, ◌-ℤ◌, ◌*ℤ◌, ◌<ℤ◌, unsigned_abs, int_le, List, [], ◌∷◌, fold, sum_by, map, Bool, if◌then◌else◌}
+use Rattle.std.specs.Prelude.{ℕ, ◌+◌, ◌-◌, ◌*◌, ◌/◌, ◌^◌, max, min, ℤ, pos, ◌+ℤ◌, ◌-ℤ◌, ◌*ℤ◌, ◌<ℤ◌, unsigned_abs, int_le, List, [], ◌∷◌, fold, sum_by, if◌then◌else◌}
 use Rattle.lam_stock.specs.declared.item.Item.{Item}
 use Rattle.lam_job.specs.JobData.{JobData, CaseData}
 use Rattle.lam_job.specs.LoadOf.{load_of}
-use Rattle.lam_job.specs.Schedule.{items_of, wall_of, cost_of}
+use Rattle.lam_job.specs.Schedule.{wall_of, cost_of}
 use Rattle.lam_job.specs.Partial.{Partial, fixed_plies, open_places, cost_floor}
 use Rattle.lam_support.specs.declared.weight.Weight.{Weight}
 

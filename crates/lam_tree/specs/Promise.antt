@@ -1,5 +1,5 @@
 -- What a report promises, whoever wrote it.
-use Rattle.std.specs.Prelude.{◌≡◌, ◌≢◌, ℕ, zero, suc, ◌+◌, ◌/◌, ◌%◌, ◌≤◌, ◌<◌, pos, List, [], ◌∷◌, length, slice_get, All, Option, Some, None, IfSome, MatchOption}
+use Rattle.std.specs.Prelude.{◌≡◌, ◌≢◌, ℕ, ◌/◌, ◌%◌, ◌≤◌, pos, List, [], ◌∷◌, length, slice_get, All, Option, Some, None, MatchOption}
 use Rattle.lam_fraction.specs.Fraction.{whole}
 use Rattle.lam_stock.specs.declared.item.Item.{Item}
 use Rattle.lam_stock.specs.declared.item.ItemNo.{ItemNo}
@@ -7,15 +7,14 @@ use Rattle.lam_job.specs.JobData.{JobData}
 use Rattle.lam_job.specs.Schedule.{wall_of, cost_of}
 use Rattle.lam_job.specs.Strength.{CaseRatio}
 use Rattle.lam_job.specs.Plate.{PanelRatio}
-use Rattle.lam_job.specs.Near.{Hangs}
 use Rattle.lam_job.specs.Design as design
-use Rattle.lam_job.specs.Partial.{Partial}
+use Rattle.lam_tree.specs.declared.spot.Spot.{Spot}
 use Rattle.lam_tree.specs.declared.node.Word.TheVariants as word
 use Rattle.lam_tree.specs.declared.report.Best.{Best}
 use Rattle.lam_tree.specs.declared.report.Answer.{Answer}
 use Rattle.lam_tree.specs.declared.report.Answer.TheVariants as answer
 use Rattle.lam_tree.specs.declared.report.Report.{Report}
-use Rattle.lam_tree.specs.Words.{spot_of, IsTrueOf}
+use Rattle.lam_tree.specs.Words.{IsTrueBy, HangsAt}
 use Rattle.lam_tree.specs.Reading.{Visit, Cut, Stray, Whole, Reading, read}
 use Rattle.lam_tree.specs.Closings.{IsBelow, IsLawful, incumbent_with}
 use Rattle.lam_tree.specs.Checks.{best_cost, final}
@@ -55,21 +54,30 @@ module _ (stock : List Item) (job : JobData) where
   abbrev pub NoLeafIsAdmissible : List Visit → Type 0
   NoLeafIsAdmissible visits = All (λ v. v.word ≢ word.Admissible) visits
 
-  -- what each answer says
-  abbrev pub AnswerHolds : Report → Reading → Answer → Type 0
-  AnswerHolds report r answer.Least =
-      (r.ending ≡ Whole) × MatchOption report.best ⊥ (λ b. design.Least stock job b.plies)
-  AnswerHolds report r answer.NoneMeets = (r.ending ≡ Whole) × design.NoneMeets stock job
-  AnswerHolds report r answer.OpenBudget = (r.ending ≡ Cut) × (length report.tree ≡ report.budget)
-  AnswerHolds report r (answer.OpenStraddle near) =
-      (r.ending ≡ Whole) × design.IsSequence stock job near.plies × (near.cost ≡ cost_of stock job near.plies)
-      × IsBelow near.cost (best_cost report.best) × Hangs stock job near.plies (spot_of near.at)
+  -- below, `Undecided` says what is so of a schedule and the spot where it straddles
+  module _ (Undecided : List ItemNo → Spot → Type 0) where
+    -- what each answer says
+    abbrev pub AnswerHoldsBy : Report → Reading → Answer → Type 0
+    AnswerHoldsBy report r answer.Least =
+        (r.ending ≡ Whole) × MatchOption report.best ⊥ (λ b. design.Least stock job b.plies)
+    AnswerHoldsBy report r answer.NoneMeets = (r.ending ≡ Whole) × design.NoneMeets stock job
+    AnswerHoldsBy report r answer.OpenBudget = (r.ending ≡ Cut) × (length report.tree ≡ report.budget)
+    AnswerHoldsBy report r (answer.OpenStraddle near) =
+        (r.ending ≡ Whole) × design.IsSequence stock job near.plies × (near.cost ≡ cost_of stock job near.plies)
+        × IsBelow near.cost (best_cost report.best) × Undecided near.plies near.at
 
-  pub record Promise (budget : ℕ) (report : Report) : Type 0 where
-    pub budget_is : report.budget ≡ budget
-    pub few : length report.tree ≤ budget
-    pub due : (read stock job report.tree).ending ≢ Stray
-    pub lawful : AreLawful None (read stock job report.tree).visits
-    pub leaves : All (λ v. IsTrueOf stock job (best_cost report.best) v.partial v.word) (read stock job report.tree).visits
-    pub best : MatchOption report.best (NoLeafIsAdmissible (read stock job report.tree).visits) (IsBest report (read stock job report.tree).visits)
-    pub answer : AnswerHolds report (read stock job report.tree) report.answer
+    pub record PromiseBy (budget : ℕ) (report : Report) : Type 0 where
+      pub budget_is : report.budget ≡ budget
+      pub few : length report.tree ≤ budget
+      pub due : (read stock job report.tree).ending ≢ Stray
+      pub lawful : AreLawful None (read stock job report.tree).visits
+      pub leaves : All (λ v. IsTrueBy stock job Undecided (best_cost report.best) v.partial v.word) (read stock job report.tree).visits
+      pub best : MatchOption report.best (NoLeafIsAdmissible (read stock job report.tree).visits) (IsBest report (read stock job report.tree).visits)
+      pub answer : AnswerHoldsBy report (read stock job report.tree) report.answer
+
+  -- where a straddling leaf, and an open answer, say that a schedule hangs there
+  abbrev pub AnswerHolds : Report → Reading → Answer → Type 0
+  AnswerHolds = AnswerHoldsBy (HangsAt stock job)
+
+  abbrev pub Promise : (budget : ℕ) (report : Report) → Type 0
+  Promise = PromiseBy (HangsAt stock job)

@@ -1,5 +1,5 @@
 -- The weights that a search tries, in this order: along the wall, round it, in shear, and mixed.
-use Rattle.std.specs.Prelude.{ℕ, ◌+◌, ◌≤◌, ℤ, pos, negsuc, unsigned_abs, List, [], ◌∷◌}
+use Rattle.std.specs.Prelude.{◌+◌, ◌≤◌, ℤ, pos, negsuc, unsigned_abs, List, [], ◌∷◌}
 use Rattle.std.proofs.Common.{lit≤}
 use Rattle.lam_support.specs.declared.weight.Weight.{Weight}
 

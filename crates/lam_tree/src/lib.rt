@@ -10,7 +10,7 @@ mod line; // a line in the making
 mod write; // the line of a node, written
 mod laws; // the laws of trees and reports
 
-pub use laws::{accepted_keeps_promise, closed_reports_agree};
+pub use laws::{Hanging, Undecided, accepted_keeps_promise, closed_reports_agree};
 pub use limits::{MOST_COST, MOST_NODES, MOST_RATIO};
 pub use node::{Node, Seat, Word};
 pub use report::{Answer, Best, Head, Near, Ratios, Report};

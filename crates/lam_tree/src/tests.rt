@@ -1,8 +1,13 @@
 //! The lines of nodes, and a tree that grows.
 
+ghost use Rattle.lam_tree.specs.Laws.{AcceptedKeepsPromise, ClosedReportsAgree};
 ghost use Rattle.lam_tree.specs.ReportRanges.{IsNode};
+ghost use Rattle.lam_tree.specs.Words.{HangsAt};
 
-use crate::{Node, Ratios, Seat, Spot, Tree, Word, write_line};
+use crate::{
+    Hanging, Node, Ratios, Seat, Spot, Tree, Word, accepted_keeps_promise,
+    closed_reports_agree, write_line,
+};
 use lam_rules::RuleNo;
 use lam_stock::ItemNo;
 use lam_support::Weight;
@@ -132,4 +137,18 @@ fn a_tree_keeps_its_nodes_in_order(rt: HostRuntime) -> Result<(), Fail> {
     let ratios = Ratios::of(vec![in rt.alloc(); 5555]?);
     assert_eq!(rt; ratios.items()[0], 5555);
     Ok(())
+}
+
+// the laws, where a straddling leaf says that a schedule hangs there
+fn hanging_keeps_the_laws()
+    ensures kept { AcceptedKeepsPromise HangsAt }
+    ensures agree { ClosedReportsAgree HangsAt }
+{
+    accepted_keeps_promise::<Hanging>();
+    closed_reports_agree::<Hanging>();
+}
+
+#[test]
+fn laws_hold_where_leaves_hang(_rt: HostRuntime) {
+    hanging_keeps_the_laws();
 }

@@ -1,4 +1,4 @@
-use Rattle.std.proofs.Common.{◌≤◌, ◌+◌, ◌∙◌, ap, length, decimal, arith}
+use Rattle.std.proofs.Common.{◌+◌, ◌∙◌, ap, length, decimal, arith}
 use Rattle.lam_tree.proofs.Adding.{added-one, short_number}
 use Rattle.lam_tree.proofs.line.Line.number.Goals as goal
 

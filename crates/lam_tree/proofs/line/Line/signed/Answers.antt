@@ -1,4 +1,4 @@
-use Rattle.std.proofs.Common.{◌≤◌, ◌+◌, ◌∙◌, ap, length, w64, arith}
+use Rattle.std.proofs.Common.{◌+◌, ◌∙◌, ap, length, w64, arith}
 use Rattle.std.specs.Fmt.{signed_decimal}
 use Rattle.std.proofs.lemmas.Int.{to_z-of_z}
 use Rattle.lam_tree.proofs.Adding.{added-one, short_signed}
