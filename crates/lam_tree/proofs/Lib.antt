@@ -18,6 +18,10 @@ pub mod Writing
 pub mod Moments
 -- lines that grow by words
 pub mod Adding
+-- lines and their words
+pub mod WordLaws
+-- the line of a node is read as that node
+pub mod NodeLaws
 -- definitions, tried on worked trees and reports
 pub mod ReadingTrials
 pub mod CheckTrials

@@ -7,7 +7,7 @@ use Rattle.lam_job.specs.declared.limits.TheConstants.{MOST_PLIES, MOST_CASES, M
 use Rattle.lam_job.specs.JobData.{JobData}
 use Rattle.lam_job.specs.Schedule.{wall_of}
 use Rattle.lam_tsai.specs.declared.place.Place.{Place}
-use Rattle.lam_tree.specs.declared.limits.TheConstants.{MOST_NODES, MOST_RATIO, MOST_COST}
+use Rattle.lam_tree.specs.declared.limits.TheConstants.{MOST_NODES, MOST_RATIO, MOST_COST, MOST_RULES}
 use Rattle.lam_tree.specs.declared.spot.Spot.{Spot}
 use Rattle.lam_tree.specs.declared.spot.Spot.TheVariants.{Ply, Panel}
 use Rattle.lam_tree.specs.declared.node.Node.{Node}
@@ -38,7 +38,7 @@ IsSeat items (seat.Item i) = i.0 < items
 abbrev pub IsWord : Word → Type 0
 IsWord word.Split = ⊤
 IsWord word.Cost = ⊤
-IsWord (word.Rule rule) = (1 ≤ rule.0) × (rule.0 ≤ 9)
+IsWord (word.Rule rule) = (1 ≤ rule.0) × (rule.0 ≤ MOST_RULES)
 IsWord (word.NetShort case weight) = case < MOST_CASES
 IsWord (word.NetCost case weight) = case < MOST_CASES
 IsWord (word.Box at) = IsPlace at

@@ -8,15 +8,19 @@ mod tree; // a list of nodes
 mod report; // the answer of a search, with what shows it
 mod line; // a line in the making
 mod write; // the line of a node, written
+mod line_words; // the words of a line
+mod read; // the line of a node, read
 mod laws; // the laws of trees and reports
 
 pub use laws::{Hanging, Undecided, accepted_keeps_promise, closed_reports_agree};
-pub use limits::{MOST_COST, MOST_NODES, MOST_RATIO};
+pub use limits::{MOST_COST, MOST_NODES, MOST_RATIO, MOST_RULES};
+pub use line_words::LineWords;
 pub use node::{Node, Seat, Word};
+pub use read::{TreeFault, read_line, read_number, read_spot};
 pub use report::{Answer, Best, Head, Near, Ratios, Report};
 pub use spot::Spot;
 pub use tree::Tree;
-pub use write::write_line;
+pub use write::{write_line, write_spot};
 
 #[cfg(test)]
 mod tests;

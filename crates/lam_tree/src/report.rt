@@ -1,10 +1,11 @@
 // What a search reports.
 
-ghost use Rattle.std.specs.Prelude.{◌≡◌};
+ghost use Rattle.std.specs.Prelude.{◌≡◌, ◌++◌, ◌∷◌, [], OnOk, OnErr};
 
 use crate::spot::Spot;
 use crate::tree::Tree;
 use lam_stock::Stack;
+use std::alloc::{AllocError, Global};
 use std::marker::Model;
 
 /// The cheapest schedule that was found.
@@ -60,6 +61,24 @@ impl Ratios {
         ensures { result ≡ items.items }
     {
         Ratios { items }
+    }
+
+    /// No ratios yet.
+    pub fn new(alloc: Global) -> Ratios
+        ensures { result ≡ [] }
+    {
+        Ratios {
+            items: Vec::new(alloc),
+        }
+    }
+
+    /// Puts a ratio at the end. Want of memory leaves the list as it was.
+    pub fn push(&mut self, ratio: u16) -> Result<(), AllocError>
+        ensures pushed { OnOk result (self.new ≡ self.old ++ ratio ∷ []) }
+        ensures kept { OnErr result (self.new ≡ self.old) }
+    {
+        self.items.push(ratio)?;
+        Ok(())
     }
 
     /// The ratios, in order.

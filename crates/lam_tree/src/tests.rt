@@ -5,8 +5,8 @@ ghost use Rattle.lam_tree.specs.ReportRanges.{IsNode};
 ghost use Rattle.lam_tree.specs.Words.{HangsAt};
 
 use crate::{
-    Hanging, Node, Ratios, Seat, Spot, Tree, Word, accepted_keeps_promise,
-    closed_reports_agree, write_line,
+    Hanging, Node, Ratios, Seat, Spot, Tree, TreeFault, Word, accepted_keeps_promise,
+    closed_reports_agree, read_line, write_line,
 };
 use lam_rules::RuleNo;
 use lam_stock::ItemNo;
@@ -149,6 +149,17 @@ fn hanging_keeps_the_laws()
 }
 
 #[test]
-fn laws_hold_where_leaves_hang(_rt: HostRuntime) {
+fn a_line_is_read_as_its_node(rt: HostRuntime) {
     hanging_keeps_the_laws();
+    let node = Node {
+        seat: Seat::Item(ItemNo(63)),
+        word: Word::Straddles(Spot::Ply(LAST)),
+    };
+    let line = b"item 64 straddles ply 16 64 outer minus".as_slice();
+    assert!(rt; read_line(line, 64) == Ok(node));
+    assert!(rt; read_line(line, 63) == Err(TreeFault));
+    assert!(rt; read_line(b"item 01 cost".as_slice(), 64) == Err(TreeFault));
+    assert!(rt; read_line(b"item 1 cost ".as_slice(), 64) == Err(TreeFault));
+    assert!(rt; read_line(b"item 1 netcost 1 0 -0 1".as_slice(), 64) == Err(TreeFault));
+    assert!(rt; read_line(b"item 1 netcost 1 0 0 0".as_slice(), 64) == Err(TreeFault));
 }
