@@ -1,6 +1,6 @@
 -- Jobs as tables, tried key by key: what each is, and the first fault that each is refused for; and one job from its bytes.
 use Rattle.std.proofs.Common.{◌≡◌, refl, ℕ, ℤ, pos, negsuc, List, [], ◌∷◌, true, false, Float, Some, None, codes}
-use Rattle.toml.specs.Data.{Data, string, integer, float, boolean, array, table, no_items, item, Members, no_members, member}
+use Rattle.toml.specs.Data.{Data, Items, string, integer, float, boolean, array, table, no_items, item, Members, no_members, member}
 use Rattle.toml.specs.Parse.{parse_document}
 use Rattle.toml.proofs.OnLiterals.{toml_on_literals}
 use Rattle.lam_stock.specs.declared.item.Item.{Item}
@@ -96,6 +96,40 @@ full_is : data_of stock full ≡ record {
   panels = [];
 }
 full_is = refl
+
+-- ---- each number stands at its own place
+
+abbrev number_at : List ℕ → ℕ → Members → Members
+number_at key n ms = member key (integer (pos n)) ms
+
+abbrev kind_is : List ℕ → Members → Members
+kind_is kind ms = member (codes "kind") (string kind) ms
+
+-- six resultants; a pressure on closed ends with all that may stand beside it
+abbrev each_case : Items
+each_case =
+    item (table (number_at (codes "factor") 5000 (kind_is (codes "resultants") (number_at (codes "mx") 14 (number_at (codes "mxy") 16 (number_at (codes "my") 15
+    (number_at (codes "nx") 11 (number_at (codes "nxy") 13 (number_at (codes "ny") 12 no_members)))))))))
+    (item (table (number_at (codes "axial") 23 (number_at (codes "diameter") 22 (member (codes "ends") (string (codes "closed")) (number_at (codes "factor") 6000
+    (kind_is (codes "cylinder") (number_at (codes "mx") 24 (number_at (codes "my") 25 (number_at (codes "pressure") 21 no_members)))))))))
+    no_items)
+
+abbrev each_panel : Items
+each_panel = item (table (number_at (codes "factor") 2000 (number_at (codes "length") 71 (number_at (codes "load") 73 (number_at (codes "width") 72 no_members))))) no_items
+
+abbrev each_rule : Members
+each_rule = member (codes "balanced") (boolean true) (number_at (codes "fewest") 32 (number_at (codes "run") 31 (member (codes "symmetric") (boolean true) (number_at (codes "thickness") 33 no_members))))
+
+each_is : data_of stock (job_with (array each_case) (pos 4) (member (codes "panel") (array each_panel) (member (codes "rules") (table each_rule) version))) ≡ record {
+  limit = 4;
+  liner = [];
+  liner_in_wall = false;
+  rules = record no_rules { symmetric = true; balanced = true; run = Some 31; fewest = Some 32; thickness = Some (pos 33) };
+  cases = record { kind = Resultants (pos 11) (pos 12) (pos 13) (pos 14) (pos 15) (pos 16); factor = pos 5000 }
+      ∷ record { kind = Cylinder (pos 21) (pos 22) true (pos 23) (pos 24) (pos 25); factor = pos 6000 } ∷ [];
+  panels = record { length = pos 71; width = pos 72; load = pos 73; factor = pos 2000 } ∷ [];
+}
+each_is = refl
 
 -- ---- first faults
 

@@ -37,3 +37,5 @@ pub mod Counted
 pub mod JobBytes
 -- jobs as tables, tried key by key
 pub mod JobOfTrials
+-- the items that a job names
+pub mod KnownItems

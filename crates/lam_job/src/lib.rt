@@ -10,11 +10,13 @@ mod rules; // what the listed plies have to keep
 mod job; // all of it
 mod fault; // why a job is refused, and where
 mod reading; // the bytes of a job, read
+mod laws; // what holds of every job that is read
 
 pub use case::{Case, CaseKind};
 pub use entries::Entries;
 pub use fault::{JobCause, JobError, JobFault, JobKey, JobPlace, JobTable};
 pub use job::Job;
+pub use laws::jobs_name_known_items;
 pub use limits::{
     GREATEST_ASKED_THICKNESS, GREATEST_DIAMETER, GREATEST_FACTOR, GREATEST_FORCE, GREATEST_MOMENT,
     GREATEST_PANEL_LOAD, GREATEST_PRESSURE, GREATEST_SIDE, GREATEST_WALL_THICKNESS, LEAST_FACTOR,

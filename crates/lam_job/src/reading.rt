@@ -97,3 +97,6 @@ fn limit_in(table: &Table) -> Result<u8, JobFault>
     )?;
     Ok(limit)
 }
+
+#[cfg(test)]
+mod tests;
