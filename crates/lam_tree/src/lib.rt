@@ -13,6 +13,7 @@ mod read; // the line of a node, read
 mod laws; // the laws of trees and reports
 
 pub use laws::{Hanging, Undecided, accepted_keeps_promise, closed_reports_agree};
+pub use line::Line;
 pub use limits::{MOST_COST, MOST_NODES, MOST_RATIO, MOST_RULES};
 pub use line_words::LineWords;
 pub use node::{Node, Seat, Word};
@@ -20,7 +21,7 @@ pub use read::{TreeFault, read_line, read_number, read_spot};
 pub use report::{Answer, Best, Head, Near, Ratios, Report};
 pub use spot::Spot;
 pub use tree::Tree;
-pub use write::{write_line, write_spot};
+pub use write::write_line;
 
 #[cfg(test)]
 mod tests;

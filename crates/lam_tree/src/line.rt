@@ -12,9 +12,9 @@ use lam_support::Weight;
 use lam_tsai::{FaceSide, Place, Side};
 use std::marker::Model;
 
-/// A line of at most 64 bytes.
+/// A line of at most 64 bytes, without memory.
 #[derive(Drop)]
-pub(crate) struct Line {
+pub struct Line {
     bytes: [u8; 64],
     len: usize,
 }
@@ -31,7 +31,7 @@ impl Model for Line {
 
 impl Line {
     /// The empty line.
-    pub(crate) fn new() -> Line
+    pub fn new() -> Line
         ensures { result ≡ [] }
     {
         Line {
@@ -50,8 +50,15 @@ impl Line {
         self.len
     }
 
+    /// Its bytes.
+    pub fn bytes(&self) -> &[u8]
+        ensures { result.now ≡ self.now }
+    {
+        &self.bytes[..self.len]
+    }
+
     /// Puts a word at the end.
-    pub(crate) fn word(&mut self, word: &[u8])
+    pub fn word(&mut self, word: &[u8])
         requires { length self.old + length word.now ≤ 64 }
         ensures { self.new ≡ self.old ++ word.now }
     {
@@ -61,12 +68,21 @@ impl Line {
     }
 
     /// Puts a blank and a word at the end.
-    pub(crate) fn add(&mut self, word: &[u8])
+    pub fn add(&mut self, word: &[u8])
         requires { length self.old + (length word.now + 1) ≤ 64 }
         ensures { IsAdded self.old self.new (word.now ∷ []) (length word.now + 1) }
     {
         self.word(b" ".as_slice());
         self.word(word);
+    }
+
+    /// Puts a blank and a number at the end.
+    pub fn whole(&mut self, n: u64)
+        requires { length self.old ≤ 43 }
+        ensures { IsAdded self.old self.new (decimal n ∷ []) 21 }
+    {
+        let mut buffer = Buffer::new();
+        self.add(buffer.format(n).as_bytes());
     }
 
     /// Puts a blank and a number of at most two digits at the end.
@@ -80,7 +96,7 @@ impl Line {
     }
 
     /// The same of a number that counts from 0, and is printed from 1.
-    pub(crate) fn ordinal(&mut self, n: u8)
+    pub fn ordinal(&mut self, n: u8)
         requires few { n < 99 }
         requires room { length self.old ≤ 61 }
         ensures { IsAdded self.old self.new (ordinal n ∷ []) 3 }
@@ -141,7 +157,7 @@ impl Line {
     }
 
     /// Puts the words of a spot at the end.
-    pub(crate) fn spot(&mut self, spot: &Spot)
+    pub fn spot(&mut self, spot: &Spot)
         requires spot { IsSpot spot.now }
         requires room { length self.old ≤ 42 }
         ensures { IsAdded self.old self.new (spot_words spot.now) 22 }

@@ -1,13 +1,12 @@
 // The line of a node, written.
 
 ghost use Rattle.std.specs.Prelude.{◌≡◌, ◌≤◌, ◌<◌, [], ℕ, length, take, drop};
-ghost use Rattle.lam_tree.specs.Lines.{line_of, node_line, seat_words, spaced, spot_words, word_words};
-ghost use Rattle.lam_tree.specs.ReportRanges.{IsNode, IsSeat, IsSpot, IsWord};
+ghost use Rattle.lam_tree.specs.Lines.{line_of, node_line, seat_words, word_words};
+ghost use Rattle.lam_tree.specs.ReportRanges.{IsNode, IsSeat, IsWord};
 ghost use Rattle.lam_tree.specs.inside.Added.{IsAdded};
 
 use crate::line::Line;
 use crate::node::{Node, Seat, Word};
-use crate::spot::Spot;
 
 /// Writes the line of a node, without the byte that ends it, at the start of a buffer, and answers
 /// its length. It takes no memory.
@@ -21,18 +20,6 @@ pub fn write_line(node: &Node, line: &mut [u8; 64]) -> usize
     write_seat(&mut text, &node.seat);
     write_word(&mut text, &node.word);
     text.put(line)
-}
-
-/// Writes the words of a spot, each with a blank before it, at the start of a buffer, and answers
-/// their length. It takes no memory.
-pub fn write_spot(spot: &Spot, words: &mut [u8; 64]) -> usize
-    requires { IsSpot spot.now }
-    ensures text { take result words.new ≡ spaced (spot_words spot.now) }
-    ensures short { result ≤ 22 }
-{
-    let mut line = Line::new();
-    line.spot(spot);
-    line.put(words)
 }
 
 // the words of a seat, at the start of a line

@@ -1,0 +1,6 @@
+use Rattle.std.proofs.Common.{◌∙◌, sym}
+use Rattle.lam_report.proofs.CutLaws.{length-whole_lines}
+use Rattle.lam_report.proofs.lines.count_lines.Goals as goal
+
+pub returns : goal.returns
+returns c = c.count_ends.ensures ∙ sym (length-whole_lines c.args.bytes.now)
