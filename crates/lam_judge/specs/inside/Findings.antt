@@ -1,0 +1,63 @@
+-- What is found at some places, one after the other: the first that fails, else the first that straddles.
+use Rattle.std.specs.Prelude.{ℕ, suc, List, [], ◌∷◌}
+use Rattle.lam_job.specs.JobData.{CaseData, PanelData}
+use Rattle.lam_job.specs.Wall.{Placed}
+use Rattle.lam_number.specs.declared.strength.Verdict.{Verdict}
+use Rattle.lam_number.specs.declared.strength.Verdict.TheVariants as verdict
+use Rattle.lam_stock.specs.declared.item.Kind.{Kind}
+use Rattle.lam_stock.specs.declared.item.Kind.TheVariants.{Ply, Pair}
+use Rattle.lam_tsai.specs.declared.place.FaceSide.{FaceSide}
+use Rattle.lam_tsai.specs.declared.place.FaceSide.TheVariants.{Inner, Outer}
+use Rattle.lam_tsai.specs.declared.place.Place.{Place}
+use Rattle.lam_tsai.specs.declared.place.Side.{Side}
+use Rattle.lam_tsai.specs.declared.place.Side.TheVariants.{Plus, Minus}
+use Rattle.lam_judge.specs.declared.finding.Finding.{Finding}
+use Rattle.lam_judge.specs.declared.finding.Finding.TheVariants.{Clear, Fails, Straddles}
+
+module _ {T : Type 0} where
+  -- at one place
+  abbrev pub found : Verdict → T → Finding T
+  found verdict.Meets at = Clear
+  found verdict.Fails at = Fails at
+  found verdict.Straddles at = Straddles at
+
+  -- with what is found at later places
+  abbrev pub and_then : Finding T → Finding T → Finding T
+  and_then Clear later = later
+  and_then (Fails at) later = Fails at
+  and_then (Straddles at) Clear = Straddles at
+  and_then (Straddles at) (Fails other) = Fails other
+  and_then (Straddles at) (Straddles other) = Straddles at
+
+-- ---- the places of a case, where there is a verdict for each face and side of a ply
+
+module _ (verdict : Placed → FaceSide → Side → Verdict) (case : ℕ) where
+  abbrev pub at_side : ℕ → Placed → FaceSide → Side → Finding Place
+  at_side k p face side = found (verdict p face side) (record { case = case; ply = k; face = face; side = side })
+
+  -- a ply has the side Plus alone
+  abbrev pub at_minus : Kind → ℕ → Placed → FaceSide → Finding Place
+  at_minus Ply k p face = Clear
+  at_minus Pair k p face = at_side k p face Minus
+
+  abbrev pub at_face : ℕ → Placed → FaceSide → Finding Place
+  at_face k p face = and_then (at_side k p face Plus) (at_minus p.item.kind k p face)
+
+  unfoldable pub at_ply : ℕ → Placed → Finding Place
+  at_ply k p = and_then (at_face k p Inner) (at_face k p Outer)
+
+  -- some plies, the first of a number
+  unfoldable pub at_plies : ℕ → List Placed → Finding Place
+  at_plies k [] = Clear
+  at_plies k (p ∷ rest) = and_then (at_ply k p) (at_plies (suc k) rest)
+
+-- some cases, the first of a number
+unfoldable pub at_cases : (CaseData → Placed → FaceSide → Side → Verdict) → List Placed → ℕ → List CaseData → Finding Place
+at_cases verdicts plies number [] = Clear
+at_cases verdicts plies number (case ∷ rest) =
+    and_then (at_plies (verdicts case) number 0 plies) (at_cases verdicts plies (suc number) rest)
+
+-- some panels, the first of a number
+unfoldable pub at_panels : (PanelData → Verdict) → ℕ → List PanelData → Finding ℕ
+at_panels verdict number [] = Clear
+at_panels verdict number (panel ∷ rest) = and_then (found (verdict panel) number) (at_panels verdict (suc number) rest)
