@@ -6,3 +6,5 @@ pub mod Kept
 pub mod FirstBroken
 -- the first case out of range
 pub mod FirstOut
+-- what findings say of places
+pub mod Found
