@@ -1,5 +1,5 @@
 -- What the first finding at some places says of each of them.
-use Rattle.std.proofs.Common.{◌≡◌, refl, sym, ◌∙◌, ap, subst, ℕ, zero, suc, ◌+◌, List, [], ◌∷◌, slice_get, Some, None, ◌⊎◌, inl, inr, arith}
+use Rattle.std.proofs.Common.{◌≡◌, refl, sym, ◌∙◌, subst, ℕ, zero, suc, ◌+◌, List, [], ◌∷◌, slice_get, Some, None, true, false, ◌⊎◌, inl, inr, arith}
 use Rattle.std.proofs.lemmas.Option.{same_Some}
 use Rattle.lam_job.specs.JobData.{CaseData, PanelData}
 use Rattle.lam_job.specs.Strength.{HasSide}
@@ -16,7 +16,7 @@ use Rattle.lam_tsai.specs.declared.place.Side.{Side}
 use Rattle.lam_tsai.specs.declared.place.Side.TheVariants.{Plus, Minus}
 use Rattle.lam_judge.specs.declared.finding.Finding.{Finding}
 use Rattle.lam_judge.specs.declared.finding.Finding.TheVariants.{Clear, Fails, Straddles}
-use Rattle.lam_judge.specs.inside.Findings.{found, and_then, at_side, at_minus, at_face, at_ply, at_plies, at_cases, at_panels}
+use Rattle.lam_judge.specs.inside.Findings.{found, and_then, is_settled, at_side, at_face, at_ply, at_plies, at_cases, at_panels}
 
 -- ---- two findings
 
@@ -34,6 +34,12 @@ module _ {T : Type 0} where
   then-then (Straddles at) (Straddles other) Clear = refl
   then-then (Straddles at) (Straddles other) (Fails third) = refl
   then-then (Straddles at) (Straddles other) (Straddles third) = refl
+
+  -- where the first is settled, the later does not matter
+  pub settled-then : (a b : Finding T) → is_settled a ≡ true → a ≡ and_then a b
+  settled-then Clear b e = absurd (let n : false ≡ true = e in cc)
+  settled-then (Fails at) b e = refl
+  settled-then (Straddles at) b e = absurd (let n : false ≡ true = e in cc)
 
   pub both-clear : (a b : Finding T) → and_then a b ≡ Clear → (a ≡ Clear) × (b ≡ Clear)
   both-clear Clear b e = (refl, e)
@@ -63,74 +69,66 @@ module _ {T : Type 0} where
 -- ---- the places of a case
 
 -- of a ply of a number: the place is on one of its sides, and fails
-pub record FailsIn (V : Placed → FaceSide → Side → Verdict) (case k : ℕ) (p : Placed) (at : Place) : Type 0 where
+pub record FailsIn (case k : ℕ) (kind : Kind) (v : FaceSide → Side → Verdict) (at : Place) : Type 0 where
   pub case_is : at.case ≡ case
   pub ply_is : at.ply ≡ k
-  pub has : HasSide p.item.kind (side_of at.side)
-  pub fails : V p at.face at.side ≡ verdict.Fails
+  pub has : HasSide kind (side_of at.side)
+  pub fails : v at.face at.side ≡ verdict.Fails
 
-module _ (V : Placed → FaceSide → Side → Verdict) (case : ℕ) where
-  abbrev place : ℕ → FaceSide → Side → Place
-  place k face side = record { case = case; ply = k; face = face; side = side }
-
+module _ (case k : ℕ) where
   -- ---- clear
 
-  minus-clear : (kind : Kind) (k : ℕ) (p : Placed) (face : FaceSide) → at_minus V case kind k p face ≡ Clear → HasSide kind (side_of Minus) → V p face Minus ≡ verdict.Meets
-  minus-clear Ply k p face e has = absurd has
-  minus-clear Pair k p face e has = found-clear _ _ e
+  face-clear : (kind : Kind) (v : Side → Verdict) (face : FaceSide) → at_face case k kind v face ≡ Clear → (side : Side) → HasSide kind (side_of side) → v side ≡ verdict.Meets
+  face-clear Ply v face e Plus has = found-clear _ _ e
+  face-clear Ply v face e Minus has = absurd has
+  face-clear Pair v face e Plus has = found-clear _ _ (both-clear _ _ e).0
+  face-clear Pair v face e Minus has = found-clear _ _ (both-clear (at_side case k (v Plus) face Plus) _ e).1
 
-  face-clear : (k : ℕ) (p : Placed) (face : FaceSide) → at_face V case k p face ≡ Clear → (side : Side) → HasSide p.item.kind (side_of side) → V p face side ≡ verdict.Meets
-  face-clear k p face e Plus has = found-clear _ _ (both-clear _ _ e).0
-  face-clear k p face e Minus has = minus-clear p.item.kind k p face (both-clear (at_side V case k p face Plus) _ e).1 has
-
-  ply-clear : (k : ℕ) (p : Placed) → at_ply V case k p ≡ Clear → (face : FaceSide) (side : Side) → HasSide p.item.kind (side_of side) → V p face side ≡ verdict.Meets
+  ply-clear : (kind : Kind) (v : FaceSide → Side → Verdict) → at_ply case k kind v ≡ Clear → (face : FaceSide) (side : Side) → HasSide kind (side_of side) → v face side ≡ verdict.Meets
   unfolding at_ply
-  ply-clear k p e Inner side has = face-clear k p Inner (both-clear _ _ e).0 side has
-  ply-clear k p e Outer side has = face-clear k p Outer (both-clear (at_face V case k p Inner) _ e).1 side has
+  ply-clear kind v e Inner side has = face-clear kind (v Inner) Inner (both-clear _ _ e).0 side has
+  ply-clear kind v e Outer side has = face-clear kind (v Outer) Outer (both-clear (at_face case k kind (v Inner) Inner) _ e).1 side has
 
+  -- ---- failing
+
+  side-fails : (kind : Kind) (v : FaceSide → Side → Verdict) (face : FaceSide) (side : Side) (at : Place) → HasSide kind (side_of side) → at_side case k (v face side) face side ≡ Fails at → FailsIn case k kind v at
+  side-fails kind v face side at has e =
+      let both = found-fails (v face side) (record { case = case; ply = k; face = face; side = side }) at e in
+      subst (FailsIn case k kind v) both.1 (record { case_is = refl; ply_is = refl; has = has; fails = both.0 })
+
+  face-fails : (kind : Kind) (v : FaceSide → Side → Verdict) (face : FaceSide) (at : Place) → at_face case k kind (v face) face ≡ Fails at → FailsIn case k kind v at
+  face-fails Ply v face at e = side-fails Ply v face Plus at tt e
+  face-fails Pair v face at e = elim (one-fails (at_side case k (v face Plus) face Plus) (at_side case k (v face Minus) face Minus) at e) [
+    | inl f ↦ side-fails Pair v face Plus at tt f
+    | inr f ↦ side-fails Pair v face Minus at tt f
+  ]
+
+  ply-fails : (kind : Kind) (v : FaceSide → Side → Verdict) (at : Place) → at_ply case k kind v ≡ Fails at → FailsIn case k kind v at
+  unfolding at_ply
+  ply-fails kind v at e =
+      elim (one-fails (at_face case k kind (v Inner) Inner) (at_face case k kind (v Outer) Outer) at e) [ inl f ↦ face-fails kind v Inner at f | inr f ↦ face-fails kind v Outer at f ]
+
+module _ (V : Placed → FaceSide → Side → Verdict) (case : ℕ) where
   -- of plies that are clear, each meets everywhere
   pub plies-clear : (k : ℕ) (plies : List Placed) → at_plies V case k plies ≡ Clear → (j : ℕ) (p : Placed) → slice_get plies j ≡ Some p
       → (face : FaceSide) (side : Side) → HasSide p.item.kind (side_of side) → V p face side ≡ verdict.Meets
   unfolding at_plies
   plies-clear k [] e j p is = absurd (let n : None ≡ Some p = is in cc)
-  plies-clear k (q ∷ rest) e zero p is = subst (λ (x : Placed). (face : FaceSide) (side : Side) → HasSide x.item.kind (side_of side) → V x face side ≡ verdict.Meets) (same_Some q p is) (ply-clear k q (both-clear _ _ e).0)
-  plies-clear k (q ∷ rest) e (suc j) p is = plies-clear (suc k) rest (both-clear (at_ply V case k q) _ e).1 j p is
-
-  -- ---- failing
-
-  side-fails : (k : ℕ) (p : Placed) (face : FaceSide) (side : Side) (at : Place) → HasSide p.item.kind (side_of side) → at_side V case k p face side ≡ Fails at → FailsIn V case k p at
-  side-fails k p face side at has e =
-      let both = found-fails (V p face side) (place k face side) at e in
-      subst (FailsIn V case k p) both.1 (record { case_is = refl; ply_is = refl; has = has; fails = both.0 })
-
-  minus-fails : (kind : Kind) (k : ℕ) (p : Placed) (face : FaceSide) (at : Place) → p.item.kind ≡ kind → at_minus V case kind k p face ≡ Fails at → FailsIn V case k p at
-  minus-fails Ply k p face at is e = absurd (cc)
-  minus-fails Pair k p face at is e = side-fails k p face Minus at (subst (λ k. HasSide k (side_of Minus)) (sym is) tt) e
-
-  plus-side : (kind : Kind) → HasSide kind (side_of Plus)
-  plus-side Ply = tt
-  plus-side Pair = tt
-
-  face-fails : (k : ℕ) (p : Placed) (face : FaceSide) (at : Place) → at_face V case k p face ≡ Fails at → FailsIn V case k p at
-  face-fails k p face at e = elim (one-fails (at_side V case k p face Plus) (at_minus V case p.item.kind k p face) at e) [
-    | inl f ↦ side-fails k p face Plus at (plus-side p.item.kind) f
-    | inr f ↦ minus-fails p.item.kind k p face at refl f
-  ]
-
-  ply-fails : (k : ℕ) (p : Placed) (at : Place) → at_ply V case k p ≡ Fails at → FailsIn V case k p at
-  unfolding at_ply
-  ply-fails k p at e = elim (one-fails (at_face V case k p Inner) (at_face V case k p Outer) at e) [ inl f ↦ face-fails k p Inner at f | inr f ↦ face-fails k p Outer at f ]
+  plies-clear k (q ∷ rest) e zero p is =
+      subst (λ (x : Placed). (face : FaceSide) (side : Side) → HasSide x.item.kind (side_of side) → V x face side ≡ verdict.Meets) (same_Some q p is)
+      (ply-clear case k q.item.kind (V q) (both-clear _ _ e).0)
+  plies-clear k (q ∷ rest) e (suc j) p is = plies-clear (suc k) rest (both-clear (at_ply case k q.item.kind (V q)) _ e).1 j p is
 
   -- of plies where a place fails, it is one of them
   pub plies-fail : (k : ℕ) (plies : List Placed) (at : Place) → at_plies V case k plies ≡ Fails at
-      → (j : ℕ) × (p : Placed) × (slice_get plies j ≡ Some p) × FailsIn V case (k + j) p at
+      → (j : ℕ) × (p : Placed) × (slice_get plies j ≡ Some p) × FailsIn case (k + j) p.item.kind (V p) at
   unfolding at_plies
   plies-fail k [] at e = absurd (cc)
-  plies-fail k (q ∷ rest) at e = elim (one-fails (at_ply V case k q) (at_plies V case (suc k) rest) at e) [
-    | inl f ↦ (let same : k ≡ k + 0 = omega arith in (0, q, refl, subst (λ m. FailsIn V case m q at) same (ply-fails k q at f)))
+  plies-fail k (q ∷ rest) at e = elim (one-fails (at_ply case k q.item.kind (V q)) (at_plies V case (suc k) rest) at e) [
+    | inl f ↦ (let same : k ≡ k + 0 = omega arith in (0, q, refl, subst (λ m. FailsIn case m q.item.kind (V q) at) same (ply-fails case k q.item.kind (V q) at f)))
     | inr f ↦ (let later = plies-fail (suc k) rest at f in
         let same : suc k + later.0 ≡ k + suc later.0 = omega arith in
-        (suc later.0, later.1, later.2, subst (λ m. FailsIn V case m later.1 at) same later.3))
+        (suc later.0, later.1, later.2, subst (λ m. FailsIn case m later.1.item.kind (V later.1) at) same later.3))
   ]
 
 -- ---- cases

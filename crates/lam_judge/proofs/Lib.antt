@@ -8,3 +8,25 @@ pub mod FirstBroken
 pub mod FirstOut
 -- what findings say of places
 pub mod Found
+-- tables that are filled entry by entry
+pub mod Filled
+-- the plies of a wall by number
+pub mod PlacedPlies
+-- walls as they are computed
+pub mod WallsLaid
+-- verdicts over both scales
+pub mod TwoScales
+-- lists that are walked by number
+pub mod Walked
+-- the plies, cases and panels that are
+pub mod PlacesWalked
+-- a ply by its number
+pub mod PlyFacts
+-- verdicts under a case
+pub mod LoadedVerdicts
+-- what computed judgements say
+pub mod truth
+-- the computed judgement, step by step
+pub mod JudgedSteps
+-- the judgement by strength
+pub mod StrengthSteps

@@ -6,7 +6,13 @@ pub mod Scales
 pub mod Kept
 -- the first place that fails, else the first that straddles
 pub mod Findings
+-- what depends on a catalogue alone
+pub mod Tables
 -- how a schedule is judged
 pub mod Judged
 -- its printed ratios
 pub mod Ratios
+-- the wall of a schedule
+pub mod Layups
+-- the wall under a case, and its places
+pub mod Loads

@@ -26,6 +26,13 @@ impl<T: Copy> Finding<T> {
         }
     }
 
+    /// Tells whether nothing that is found at later places matters.
+    pub(crate) fn is_settled(&self) -> bool
+        ensures { result ≡ by.is_settled self.now }
+    {
+        matches!(self, Finding::Fails(_))
+    }
+
     /// With what is found at later places.
     pub(crate) fn then(self, later: Finding<T>) -> Finding<T>
         ensures { result ≡ by.and_then self later }

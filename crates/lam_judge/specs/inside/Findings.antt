@@ -1,5 +1,5 @@
 -- What is found at some places, one after the other: the first that fails, else the first that straddles.
-use Rattle.std.specs.Prelude.{ℕ, suc, List, [], ◌∷◌}
+use Rattle.std.specs.Prelude.{ℕ, suc, Bool, true, false, List, [], ◌∷◌}
 use Rattle.lam_job.specs.JobData.{CaseData, PanelData}
 use Rattle.lam_job.specs.Wall.{Placed}
 use Rattle.lam_number.specs.declared.strength.Verdict.{Verdict}
@@ -29,27 +29,31 @@ module _ {T : Type 0} where
   and_then (Straddles at) (Fails other) = Fails other
   and_then (Straddles at) (Straddles other) = Straddles at
 
--- ---- the places of a case, where there is a verdict for each face and side of a ply
+  -- nothing that is found later matters
+  abbrev pub is_settled : Finding T → Bool
+  is_settled Clear = false
+  is_settled (Fails at) = true
+  is_settled (Straddles at) = false
 
-module _ (verdict : Placed → FaceSide → Side → Verdict) (case : ℕ) where
-  abbrev pub at_side : ℕ → Placed → FaceSide → Side → Finding Place
-  at_side k p face side = found (verdict p face side) (record { case = case; ply = k; face = face; side = side })
+-- ---- the places of a case
+
+module _ (case k : ℕ) where
+  abbrev pub at_side : Verdict → FaceSide → Side → Finding Place
+  at_side v face side = found v (record { case = case; ply = k; face = face; side = side })
 
   -- a ply has the side Plus alone
-  abbrev pub at_minus : Kind → ℕ → Placed → FaceSide → Finding Place
-  at_minus Ply k p face = Clear
-  at_minus Pair k p face = at_side k p face Minus
+  abbrev pub at_face : Kind → (Side → Verdict) → FaceSide → Finding Place
+  at_face Ply verdict face = at_side (verdict Plus) face Plus
+  at_face Pair verdict face = and_then (at_side (verdict Plus) face Plus) (at_side (verdict Minus) face Minus)
 
-  abbrev pub at_face : ℕ → Placed → FaceSide → Finding Place
-  at_face k p face = and_then (at_side k p face Plus) (at_minus p.item.kind k p face)
+  unfoldable pub at_ply : Kind → (FaceSide → Side → Verdict) → Finding Place
+  at_ply kind verdict = and_then (at_face kind (verdict Inner) Inner) (at_face kind (verdict Outer) Outer)
 
-  unfoldable pub at_ply : ℕ → Placed → Finding Place
-  at_ply k p = and_then (at_face k p Inner) (at_face k p Outer)
-
+module _ (verdict : Placed → FaceSide → Side → Verdict) (case : ℕ) where
   -- some plies, the first of a number
   unfoldable pub at_plies : ℕ → List Placed → Finding Place
   at_plies k [] = Clear
-  at_plies k (p ∷ rest) = and_then (at_ply k p) (at_plies (suc k) rest)
+  at_plies k (p ∷ rest) = and_then (at_ply case k p.item.kind (verdict p)) (at_plies (suc k) rest)
 
 -- some cases, the first of a number
 unfoldable pub at_cases : (CaseData → Placed → FaceSide → Side → Verdict) → List Placed → ℕ → List CaseData → Finding Place

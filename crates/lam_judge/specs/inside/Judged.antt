@@ -61,27 +61,28 @@ decided verdict.Meets second = verdict.Meets
 decided verdict.Fails second = verdict.Fails
 decided verdict.Straddles second = second
 
--- z of a face
-abbrev pub z_of : Placed → FaceSide → ℤ
-z_of p Inner = p.inner
-z_of p Outer = p.outer
+-- z of a face of two
+abbrev pub z_by : (inner outer : ℤ) → FaceSide → ℤ
+z_by inner outer Inner = inner
+z_by inner outer Outer = outer
+
+-- the verdict on a panel of a wall of these matrices
+unfoldable pub panel_over : {A : Type 0} → Numbers A → ℤ → Wall A → PanelData → Verdict
+panel_over n q0 w panel = plate.panel_verdict n q0 w panel panel.factor
 
 module _ (scale : Scale) (wall : List Item) where
   unfoldable pub place_verdict : CaseData → Placed → FaceSide → Side → Verdict
   place_verdict case p face side =
       decided
-      (verdict_over coarse scale wall (load_of case.kind) case.factor p.item side (z_of p face))
-      (verdict_over fine scale wall (load_of case.kind) case.factor p.item side (z_of p face))
-
-  unfoldable pub panel_verdict : PanelData → Verdict
-  panel_verdict panel = plate.panel_verdict fine scale.q0 (matrices fine scale wall) panel panel.factor
+      (verdict_over coarse scale wall (load_of case.kind) case.factor p.item side (z_by p.inner p.outer face))
+      (verdict_over fine scale wall (load_of case.kind) case.factor p.item side (z_by p.inner p.outer face))
 
   -- what is found in the wall of a job
   abbrev pub plies_found : JobData → Finding Place
   plies_found job = at_cases place_verdict (placed_plies wall) 0 job.cases
 
   abbrev pub panels_found : JobData → Finding ℕ
-  panels_found job = at_panels panel_verdict 0 job.panels
+  panels_found job = at_panels (panel_over fine scale.q0 (matrices fine scale wall)) 0 job.panels
 
 -- ---- the judgement
 

@@ -1,6 +1,5 @@
 -- The printed ratios of a schedule, as they are computed, over 60 bits.
 use Rattle.std.specs.Prelude.{ℕ, List, length, map, flat_map, if◌then◌else◌, Some, None}
-use Rattle.lam_fraction.specs.numbers.Numbers.{Numbers}
 use Rattle.lam_stock.specs.declared.item.Item.{Item}
 use Rattle.lam_stock.specs.declared.item.ItemNo.{ItemNo}
 use Rattle.lam_stock.specs.declared.scale.Scale.{Scale}

@@ -1,0 +1,106 @@
+-- What is known of a ply of a wall, by its number: its item, its criterion, and z of its faces.
+use Rattle.std.proofs.Common.{◌≡◌, sym, ◌∙◌, ap, subst, ℕ, ◌+◌, ◌<◌, ℤ, List, length, get_or, slice_get, Some, FitsSigned, w64, add-one, arith}
+use Rattle.std.proofs.lemmas.Int.{ints, to_z-of_z}
+use Rattle.std.proofs.lemmas.List.Elements.{All-get_or}
+use Rattle.std.proofs.lemmas.Option.{get_or_from_slice_get, same_Some, slice_get_within}
+use Rattle.lam_fraction.proofs.numbers.Machine.{stored-64}
+use Rattle.lam_stock.specs.declared.item.Item.{Item}
+use Rattle.lam_stock.specs.declared.item.ItemNo.{ItemNo}
+use Rattle.lam_stock.specs.declared.scale.Scale.{Scale}
+use Rattle.lam_stock.specs.Scale.{scale_of}
+use Rattle.lam_stock.specs.Stock.{IsStock, WithinLimits}
+use Rattle.lam_job.specs.Schedule.{items_of}
+use Rattle.lam_job.specs.Wall.{Placed, placed_plies, wall_thickness}
+use Rattle.lam_job.proofs.Listed.{item_of, items_of-all}
+use Rattle.lam_tsai.specs.Listed.{IsItemOf}
+use Rattle.lam_tsai.specs.declared.place.FaceSide.{FaceSide}
+use Rattle.lam_tsai.specs.declared.place.Side.{Side}
+use Rattle.lam_tsai.specs.inside.Reach.{ReachCriterion}
+use Rattle.lam_tsai.proofs.ItemFacts.{reach-criterion}
+use Rattle.lam_wall.specs.Faces.{faces}
+use Rattle.lam_judge.specs.declared.layup.Layup.{Layup}
+use Rattle.lam_judge.specs.declared.loaded.Loaded.{Loaded}
+use Rattle.lam_judge.specs.declared.tables.Criteria.{Criteria}
+use Rattle.lam_judge.specs.declared.tables.Tables.{Tables}
+use Rattle.lam_judge.specs.inside.Findings.{at_ply}
+use Rattle.lam_judge.specs.inside.Judged.{z_by}
+use Rattle.lam_judge.specs.inside.Layups.{IsLayupOf}
+use Rattle.lam_judge.specs.inside.Loads.{IsBorne, IsReady, IsWithin, item_verdict, loaded_verdict}
+use Rattle.lam_judge.specs.inside.Scales.{coarse, fine}
+use Rattle.lam_judge.specs.inside.Tables.{AreTablesOf, criteria}
+use Rattle.lam_judge.proofs.PlacedPlies.{LiesIn, inner-face, lies-in, outer-face, ply-item, ply-there}
+use Rattle.lam_judge.proofs.WallsLaid.{coarse-laws, fine-laws}
+
+-- an item of a catalogue
+pub of-catalogue : {scale : Scale} (stock : List Item) → IsStock stock scale → (k : ℕ) (i : Item) → slice_get stock k ≡ Some i → IsItemOf scale i
+of-catalogue stock is k i at = record { items = stock; stock = is; place = k; listed = at }
+
+module _ {stock : List Item} {l : Layup} (is : IsLayupOf stock l) (k : ℕ) (ply : ItemNo) (at : slice_get l.plies k ≡ Some ply) where
+  abbrev pub wall : List Item
+  wall = items_of stock l.plies
+
+  known : ply.0 < length stock
+  known = subst (λ (p : ItemNo). p.0 < length stock) (get_or_from_slice_get l.plies k ply ply at) (All-get_or (λ (p : ItemNo). p.0 < length stock) l.plies k ply (slice_get_within l.plies k ply at) is.plies.known)
+
+  pub there : (p : Placed) × (slice_get (placed_plies wall) k ≡ Some p)
+  there = let i = item_of stock ply known in ply-there stock l.plies is.plies.known k ply i.0 at i.1
+
+  abbrev pub placed : Placed
+  placed = there.0
+
+  pub placed-is : slice_get (placed_plies wall) k ≡ Some placed
+  placed-is = there.1
+
+  pub item-is : slice_get stock ply.0 ≡ Some placed.item
+  item-is = ply-item stock l.plies is.plies.known k ply placed at placed-is
+
+  pub item-listed : IsItemOf (scale_of stock) placed.item
+  item-listed = of-catalogue stock is.plies.catalogue ply.0 placed.item item-is
+
+  lies : LiesIn (wall_thickness wall) placed
+  lies = lies-in wall (items_of-all stock WithinLimits is.plies.catalogue.limits l.plies) k placed placed-is
+
+  -- ---- z of its faces
+
+  pub inner-is : (d : ℤ) → get_or l.faces k d ≡ placed.inner
+  inner-is d = get_or_from_slice_get l.faces k placed.inner d (is.faces k placed.inner (inner-face wall k placed placed-is))
+
+  pub outer-is : (d : ℤ) → get_or l.faces (k + 1) d ≡ placed.outer
+  outer-is d = get_or_from_slice_get l.faces (k + 1) placed.outer d (is.faces (k + 1) placed.outer (ap (slice_get (faces wall)) (add-one k) ∙ outer-face wall k placed placed-is))
+
+  module _ {loaded : Loaded} (borne : IsBorne wall loaded) where
+    pub inner-stored : (d : ℤ) → stored-64 (get_or l.faces k d) ≡ placed.inner
+    inner-stored d = let fits : FitsSigned w64 placed.inner = omega (arith, ints, borne.thickness, borne.thin, lies.inner_from, lies.inner_to) in ap stored-64 (inner-is d) ∙ to_z-of_z w64 placed.inner fits
+
+    pub outer-stored : (d : ℤ) → stored-64 (get_or l.faces (k + 1) d) ≡ placed.outer
+    outer-stored d = let fits : FitsSigned w64 placed.outer = omega (arith, ints, borne.thickness, borne.thin, lies.outer_from, lies.outer_to) in ap stored-64 (outer-is d) ∙ to_z-of_z w64 placed.outer fits
+
+    pub inner-within : {z : ℤ} → z ≡ placed.inner → IsWithin loaded.h z
+    inner-within e = record { inner = omega (arith, ints, e, borne.thickness, lies.inner_from); outer = omega (arith, ints, e, borne.thickness, lies.inner_to) }
+
+    pub outer-within : {z : ℤ} → z ≡ placed.outer → IsWithin loaded.h z
+    outer-within e = record { inner = omega (arith, ints, e, borne.thickness, lies.outer_from); outer = omega (arith, ints, e, borne.thickness, lies.outer_to) }
+
+  -- ---- its criterion
+
+  module _ {tables : Tables} (are : AreTablesOf stock tables) {c : Criteria} (found : slice_get tables.criteria ply.0 ≡ Some c) where
+    pub criteria-is : c ≡ criteria (scale_of stock) placed.item
+    criteria-is = same_Some c (criteria (scale_of stock) placed.item) (sym found ∙ are.criteria ply.0 placed.item item-is)
+
+    pub ready : {loaded : Loaded} → IsBorne wall loaded → IsReady c loaded
+    ready borne = record {
+      coarse_made = subst (λ (x : Criteria). ReachCriterion coarse x.coarse) (sym criteria-is) (reach-criterion item-listed coarse-laws);
+      fine_made = subst (λ (x : Criteria). ReachCriterion fine x.fine) (sym criteria-is) (reach-criterion item-listed fine-laws);
+      coarse_short = borne.coarse_short;
+      fine_short = borne.fine_short;
+      asked = borne.asked;
+      thick = borne.thick;
+      thin = borne.thin;
+    }
+
+    -- what is found at it
+    pub found-is : (loaded : Loaded) (case : ℕ) (inner outer : ℤ) → inner ≡ placed.inner → outer ≡ placed.outer
+        → at_ply case k c.coarse.kind (λ (face : FaceSide) (side : Side). loaded_verdict c loaded (z_by inner outer face) side)
+        ≡ at_ply case k placed.item.kind (item_verdict (scale_of stock) loaded placed)
+    found-is loaded case inner outer p q =
+        λ i. at_ply case k (criteria-is i).coarse.kind (λ (face : FaceSide) (side : Side). loaded_verdict (criteria-is i) loaded (z_by (p i) (q i) face) side)

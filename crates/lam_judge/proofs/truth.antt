@@ -1,0 +1,8 @@
+-- what a failing level says of the criterion's value
+pub mod Failing
+-- what a verdict at a place says of the stress there
+pub mod PlaceTruth
+-- what the verdicts of a wall say of its ratios
+pub mod WallTruth
+-- what a computed judgement says
+pub mod JudgedTruth
