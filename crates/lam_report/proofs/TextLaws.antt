@@ -50,3 +50,9 @@ counted-more f n zero = let same : n ≡ n + 0 = omega arith in ap (λ m. f m �
 counted-more f n (suc k) =
     let same : suc n + k ≡ n + suc k = omega arith in
     ap (λ t. f n ∷ t) (counted-more f (suc n) k ∙ ap (λ m. counted f (suc n) k ++ f m ∷ []) same)
+
+pub counted-next : (f : ℕ → List ℕ) (k : ℕ) → counted f 0 (k + 1) ≡ counted f 0 k ++ f k ∷ []
+counted-next f k =
+    let next : k + 1 ≡ suc k = omega arith in
+    let same : 0 + k ≡ k = omega arith in
+    ap (counted f 0) next ∙ counted-more f 0 k ∙ ap (λ m. counted f 0 k ++ f m ∷ []) same

@@ -1,8 +1,9 @@
 -- The texts of an analysis and of a report: what is written after a search, or of one schedule.
-use Rattle.std.specs.Prelude.{ℕ, zero, suc, ◌+◌, ◌*◌, ◌/◌, ◌%◌, List, [], ◌∷◌, ◌++◌, length, map, slice_get, Option, Some, None, codes, decimal}
+use Rattle.std.specs.Prelude.{◌≡◌, ℕ, zero, suc, ◌+◌, ◌*◌, ◌/◌, ◌%◌, List, [], ◌∷◌, ◌++◌, length, map, slice_get, Option, Some, None, codes, decimal}
 use Rattle.lam_stock.specs.declared.item.Item.{Item}
 use Rattle.lam_stock.specs.declared.item.ItemNo.{ItemNo}
 use Rattle.lam_job.specs.JobData.{JobData}
+use Rattle.lam_job.specs.Rules.{Keeps, IsLeastBroken}
 use Rattle.lam_job.specs.Schedule.{wall_of, cost_of}
 use Rattle.lam_tree.specs.declared.node.Node.{Node}
 use Rattle.lam_tree.specs.declared.report.Best.{Best}
@@ -67,6 +68,16 @@ analysis_lines cost broken cases plies panels ratio panel =
 abbrev pub analysis_text : List Item → JobData → List ItemNo → (broken : Option ℕ) → (ratio : (case ply : ℕ) → ℕ) → (panel : ℕ → Option ℕ) → List ℕ
 analysis_text stock job listed broken ratio panel =
     text_of (analysis_lines (cost_of stock job listed) broken (length job.cases) (length (wall_of stock job listed)) (length job.panels) ratio panel)
+
+-- the rule that an analysis names: the least that the listed plies break, or none where they keep all
+abbrev pub NamesRule : List Item → JobData → List ItemNo → (broken : Option ℕ) → Type 0
+NamesRule stock job listed None = Keeps stock job listed
+NamesRule stock job listed (Some rule) = IsLeastBroken rule stock job listed
+
+-- a text is an analysis of a schedule, with these ratios
+abbrev pub IsAnalysis : List Item → JobData → List ItemNo → (ratio : (case ply : ℕ) → ℕ) → (panel : ℕ → Option ℕ) → List ℕ → Type 0
+IsAnalysis stock job listed ratio panel text =
+    (broken : Option ℕ) × NamesRule stock job listed broken × (text ≡ analysis_text stock job listed broken ratio panel)
 
 -- ---- a report
 
