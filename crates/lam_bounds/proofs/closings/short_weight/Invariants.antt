@@ -1,0 +1,11 @@
+use Rattle.std.proofs.Common.{◌≡◌, ℕ, ◌<◌, Some, slice_get}
+use Rattle.lam_job.specs.JobData.{CaseData}
+use Rattle.lam_support.specs.declared.weight.Weight.{Weight}
+use Rattle.lam_tree.specs.ForceBalance.{IsShort}
+use Rattle.lam_tree.specs.TriedWeights.{tried_weights}
+use Rattle.lam_bounds.specs.inside.Computed.{capacity_value}
+use Rattle.lam_bounds.proofs.closings.short_weight.Given as goal
+
+abbrev pub invariant-loop-k : goal.invariant-loop-k
+invariant-loop-k l = (j : ℕ) → j < l.k → (w : Weight) → slice_get tried_weights j ≡ Some w → (case : CaseData) → slice_get l.job.cases l.case ≡ Some case
+    → ¬ IsShort l.stock l.job l.partial case w (λ i. capacity_value i w)

@@ -1,0 +1,1 @@
+pub mod inside  -- words that calls need and nobody has to believe

@@ -1,0 +1,1 @@
+//! Bounds on worked jobs.
