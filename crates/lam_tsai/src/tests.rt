@@ -92,8 +92,10 @@ const OPPOSED: &str =
 const SLACK: &str = "slack,ply,10000,10000,0,5000,2442,2442,2442,2442,2442,0,5000,1,0,1,10";
 
 // an item, the strains in ten-thousandths, and the strength ratio rounded down, or one below a tie
-const WORKED: [(&str, i16, i16, i16, u16); 15] = [
+const WORKED: [(&str, i16, i16, i16, u16); 16] = [
     (MAT, 0, 0, 0, 20_000),
+    // a sixteenth, which is one point at both scales
+    (MAT, 0, 625, 0, 159),
     (MAT, 0, 18, 0, 5_555),
     (MAT, 0, 20, 0, 4_999),
     (UNLIKE, 0, -20, 0, 9_999),
@@ -123,15 +125,30 @@ fn ratios_are_those_worked_by_hand(rt: HostRuntime) -> Result<(), Fail> {
     Ok(())
 }
 
+// the mat bears a strain of 0.002 along one axis 5 times, where f is the square of a fifth of the factor
 #[test]
-fn a_tie_straddles_and_a_side_is_judged_by_itself(rt: HostRuntime) -> Result<(), Fail> {
+fn a_tie_straddles(rt: HostRuntime) -> Result<(), Fail> {
     let mat = catalogue(rt.alloc(), MAT)?;
-    let tie: FaceStrain<Fix<60>> = strain(0, 20, 0);
-    assert_eq!(rt; judged(&mat, Side::Plus, &tie, 0), Verdict::Meets);
-    assert_eq!(rt; judged(&mat, Side::Plus, &tie, 1), Verdict::Meets);
-    assert_eq!(rt; judged(&mat, Side::Plus, &tie, 5_000), Verdict::Straddles);
-    assert_eq!(rt; judged(&mat, Side::Plus, &tie, 5_001), Verdict::Fails);
-    assert_eq!(rt; judged(&mat, Side::Plus, &tie, 20_000), Verdict::Fails);
+    let sharp: FaceStrain<Fix<60>> = strain(0, 20, 0);
+    let quick: FaceStrain<Fix<28>> = strain(0, 20, 0);
+    for (factor, verdict) in [
+        (0, Verdict::Meets),
+        (1, Verdict::Meets),
+        (4_900, Verdict::Meets),
+        (5_000, Verdict::Straddles),
+        (5_100, Verdict::Fails),
+        (20_000, Verdict::Fails),
+    ] {
+        assert_eq!(rt; judged(&mat, Side::Plus, &sharp, factor), verdict);
+        assert_eq!(rt; judged(&mat, Side::Plus, &quick, factor), verdict);
+    }
+    assert_eq!(rt; judged(&mat, Side::Plus, &sharp, 4_999), Verdict::Meets);
+    assert_eq!(rt; judged(&mat, Side::Plus, &sharp, 5_001), Verdict::Fails);
+    Ok(())
+}
+
+#[test]
+fn a_side_is_judged_by_itself(rt: HostRuntime) -> Result<(), Fail> {
     let pair = catalogue(rt.alloc(), PAIR)?;
     let shear: FaceStrain<Fix<60>> = strain(0, 0, 36);
     assert_eq!(rt; judged(&pair, Side::Plus, &shear, 3_552), Verdict::Fails);
