@@ -30,3 +30,5 @@ pub mod truth
 pub mod JudgedSteps
 -- the judgement by strength
 pub mod StrengthSteps
+-- the computed ratios
+pub mod PrintedSteps

@@ -15,6 +15,11 @@ use Rattle.lam_job.proofs.Listed.{item_of, items_of-all}
 use Rattle.lam_tsai.specs.Listed.{IsItemOf}
 use Rattle.lam_tsai.specs.declared.place.FaceSide.{FaceSide}
 use Rattle.lam_tsai.specs.declared.place.Side.{Side}
+use Rattle.lam_job.specs.declared.load.Load.{Load}
+use Rattle.lam_number.specs.declared.fix.Fix.{Fix}
+use Rattle.lam_solve.specs.declared.strains.Strains.{Strains}
+use Rattle.lam_solve.specs.inside.Formulas.{at_face}
+use Rattle.lam_tsai.specs.inside.Halving.{ratio_by}
 use Rattle.lam_tsai.specs.inside.Reach.{ReachCriterion}
 use Rattle.lam_tsai.proofs.ItemFacts.{reach-criterion}
 use Rattle.lam_wall.specs.Faces.{faces}
@@ -23,13 +28,14 @@ use Rattle.lam_judge.specs.declared.loaded.Loaded.{Loaded}
 use Rattle.lam_judge.specs.declared.tables.Criteria.{Criteria}
 use Rattle.lam_judge.specs.declared.tables.Tables.{Tables}
 use Rattle.lam_judge.specs.inside.Findings.{at_ply}
-use Rattle.lam_judge.specs.inside.Judged.{z_by}
+use Rattle.lam_judge.specs.inside.Judged.{strains as strains_under, z_by}
 use Rattle.lam_judge.specs.inside.Layups.{IsLayupOf}
 use Rattle.lam_judge.specs.inside.Loads.{IsBorne, IsReady, IsWithin, item_verdict, loaded_verdict}
+use Rattle.lam_judge.specs.inside.Ratios.{ply_ratio}
 use Rattle.lam_judge.specs.inside.Scales.{coarse, fine}
 use Rattle.lam_judge.specs.inside.Tables.{AreTablesOf, criteria}
 use Rattle.lam_judge.proofs.PlacedPlies.{LiesIn, inner-face, lies-in, outer-face, ply-item, ply-there}
-use Rattle.lam_judge.proofs.WallsLaid.{coarse-laws, fine-laws}
+use Rattle.lam_judge.proofs.WallsLaid.{coarse-laws, fine-laws, thin}
 
 -- an item of a catalogue
 pub of-catalogue : {scale : Scale} (stock : List Item) → IsStock stock scale → (k : ℕ) (i : Item) → slice_get stock k ≡ Some i → IsItemOf scale i
@@ -68,18 +74,17 @@ module _ {stock : List Item} {l : Layup} (is : IsLayupOf stock l) (k : ℕ) (ply
   pub outer-is : (d : ℤ) → get_or l.faces (k + 1) d ≡ placed.outer
   outer-is d = get_or_from_slice_get l.faces (k + 1) placed.outer d (is.faces (k + 1) placed.outer (ap (slice_get (faces wall)) (add-one k) ∙ outer-face wall k placed placed-is))
 
-  module _ {loaded : Loaded} (borne : IsBorne wall loaded) where
-    pub inner-stored : (d : ℤ) → stored-64 (get_or l.faces k d) ≡ placed.inner
-    inner-stored d = let fits : FitsSigned w64 placed.inner = omega (arith, ints, borne.thickness, borne.thin, lies.inner_from, lies.inner_to) in ap stored-64 (inner-is d) ∙ to_z-of_z w64 placed.inner fits
+  pub inner-stored : (d : ℤ) → stored-64 (get_or l.faces k d) ≡ placed.inner
+  inner-stored d = let fits : FitsSigned w64 placed.inner = omega (arith, ints, is.thickness, thin is, lies.inner_from, lies.inner_to) in ap stored-64 (inner-is d) ∙ to_z-of_z w64 placed.inner fits
 
-    pub outer-stored : (d : ℤ) → stored-64 (get_or l.faces (k + 1) d) ≡ placed.outer
-    outer-stored d = let fits : FitsSigned w64 placed.outer = omega (arith, ints, borne.thickness, borne.thin, lies.outer_from, lies.outer_to) in ap stored-64 (outer-is d) ∙ to_z-of_z w64 placed.outer fits
+  pub outer-stored : (d : ℤ) → stored-64 (get_or l.faces (k + 1) d) ≡ placed.outer
+  outer-stored d = let fits : FitsSigned w64 placed.outer = omega (arith, ints, is.thickness, thin is, lies.outer_from, lies.outer_to) in ap stored-64 (outer-is d) ∙ to_z-of_z w64 placed.outer fits
 
-    pub inner-within : {z : ℤ} → z ≡ placed.inner → IsWithin loaded.h z
-    inner-within e = record { inner = omega (arith, ints, e, borne.thickness, lies.inner_from); outer = omega (arith, ints, e, borne.thickness, lies.inner_to) }
+  pub inner-within : {h z : ℤ} → h ≡ wall_thickness wall → z ≡ placed.inner → IsWithin h z
+  inner-within same e = record { inner = omega (arith, ints, e, same, lies.inner_from); outer = omega (arith, ints, e, same, lies.inner_to) }
 
-    pub outer-within : {z : ℤ} → z ≡ placed.outer → IsWithin loaded.h z
-    outer-within e = record { inner = omega (arith, ints, e, borne.thickness, lies.outer_from); outer = omega (arith, ints, e, borne.thickness, lies.outer_to) }
+  pub outer-within : {h z : ℤ} → h ≡ wall_thickness wall → z ≡ placed.outer → IsWithin h z
+  outer-within same e = record { inner = omega (arith, ints, e, same, lies.outer_from); outer = omega (arith, ints, e, same, lies.outer_to) }
 
   -- ---- its criterion
 
@@ -87,16 +92,25 @@ module _ {stock : List Item} {l : Layup} (is : IsLayupOf stock l) (k : ℕ) (ply
     pub criteria-is : c ≡ criteria (scale_of stock) placed.item
     criteria-is = same_Some c (criteria (scale_of stock) placed.item) (sym found ∙ are.criteria ply.0 placed.item item-is)
 
+    pub made-fine : ReachCriterion fine c.fine
+    made-fine = subst (λ (x : Criteria). ReachCriterion fine x.fine) (sym criteria-is) (reach-criterion item-listed fine-laws)
+
     pub ready : {loaded : Loaded} → IsBorne wall loaded → IsReady c loaded
     ready borne = record {
       coarse_made = subst (λ (x : Criteria). ReachCriterion coarse x.coarse) (sym criteria-is) (reach-criterion item-listed coarse-laws);
-      fine_made = subst (λ (x : Criteria). ReachCriterion fine x.fine) (sym criteria-is) (reach-criterion item-listed fine-laws);
+      fine_made = made-fine;
       coarse_short = borne.coarse_short;
       fine_short = borne.fine_short;
       asked = borne.asked;
       thick = borne.thick;
       thin = borne.thin;
     }
+
+    -- the printed ratio of it
+    pub ratio-is : (load : Load) (strains : Strains (Fix 60)) (inner outer h : ℤ) → strains ≡ strains_under fine (scale_of stock) wall load → inner ≡ placed.inner → outer ≡ placed.outer → h ≡ wall_thickness wall
+        → ratio_by fine c.fine (at_face fine.calc strains inner h) (at_face fine.calc strains outer h) ≡ ply_ratio (scale_of stock) wall load placed
+    unfolding ply_ratio
+    ratio-is load strains inner outer h s p q t = λ i. ratio_by fine (criteria-is i).fine (at_face fine.calc (s i) (p i) (t i)) (at_face fine.calc (s i) (q i) (t i))
 
     -- what is found at it
     pub found-is : (loaded : Loaded) (case : ℕ) (inner outer : ℤ) → inner ≡ placed.inner → outer ≡ placed.outer

@@ -8,7 +8,7 @@ use Rattle.lam_job.specs.JobData.{JobData}
 use Rattle.lam_job.specs.LoadOf.{load_of}
 use Rattle.lam_job.specs.LoadRange.{LoadInRange}
 use Rattle.lam_job.specs.Ranges.{IsJob}
-use Rattle.lam_job.specs.Rules.{FitnessRule, Keeps}
+use Rattle.lam_job.specs.Rules.{Fit, FitnessRule, Keeps}
 use Rattle.lam_job.specs.Schedule.{items_of, wall_of}
 use Rattle.lam_job.specs.Wall.{wall_thickness}
 use Rattle.lam_wall.specs.Assembled.{StandsFor}
@@ -37,13 +37,16 @@ module _ (stock : List Item) (job : JobData) (listed : List ItemNo) (l : Layup) 
   pub layup-range : first_out stock job listed ≡ None → All (λ c. LoadInRange (scale_of stock).floor l.h (load_of c.kind)) job.cases
   layup-range e = subst (λ h. All (λ c. LoadInRange (scale_of stock).floor h (load_of c.kind)) job.cases) (sym (is.thickness ∙ ap wall_thickness same)) (all-in-range stock job listed e)
 
-  pub layup-fit : Keeps stock job listed → 0 < length job.panels → IsFitWall fine (scale_of stock) l.fine.wall
-  layup-fit rules some = (
+  pub fit-wall : Fit stock job listed → IsFitWall fine (scale_of stock) l.fine.wall
+  fit-wall fit = (
     stock,
     job,
     listed,
-    record { fit = rules FitnessRule some; stands = subst (StandsFor fine l.fine.wall (scale_of stock) stock) numbers (laid-stands fine-laws is.plies is.fine) },
+    record { fit = fit; stands = subst (StandsFor fine l.fine.wall (scale_of stock) stock) numbers (laid-stands fine-laws is.plies is.fine) },
   )
+
+  pub layup-fit : Keeps stock job listed → 0 < length job.panels → IsFitWall fine (scale_of stock) l.fine.wall
+  layup-fit rules some = fit-wall (rules FitnessRule some)
 
   module _ (rules : Keeps stock job listed) (none : first_out stock job listed ≡ None) (r : Judgement)
       (found : r ≡ by_findings (plies_found (scale_of stock) (items_of stock l.plies) job) (panels_found (scale_of stock) (items_of stock l.plies) job)) where

@@ -6,3 +6,5 @@ pub mod PlaceTruth
 pub mod WallTruth
 -- what a computed judgement says
 pub mod JudgedTruth
+-- what computed ratios say
+pub mod PrintedTruth

@@ -23,9 +23,12 @@ mod cases;
 mod fitness;
 // the judgement
 mod judging;
+// the printed ratios
+mod printing;
 
 pub use judgement::Judgement;
 pub use judging::{judge, judge_by};
 pub use lam_tsai::{FaceSide, Place, Side};
+pub use printing::{ratios, ratios_by};
 pub use room::Room;
 pub use tables::Tables;

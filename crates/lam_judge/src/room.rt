@@ -59,6 +59,41 @@ impl Room {
         })
     }
 
+    /// Room for the ratios of a wall of so many plies, with none yet.
+    pub(crate) fn start(&mut self, plies: u8)
+        ensures { self.new ≡ record { plies = plies; ratios = []; panels = None } }
+    {
+        self.plies = plies;
+        self.ratios.clear();
+        self.is_fit = false;
+        self.panels.clear();
+    }
+
+    /// One ratio more.
+    pub(crate) fn add(&mut self, ratio: u16)
+        requires { length self.old.ratios < 1024 }
+        ensures { self.new ≡ record self.old { ratios = self.old.ratios ++ ratio ∷ [] } }
+    {
+        self.ratios.push_reserved(ratio);
+    }
+
+    /// The schedule is fit for a panel, and no panel has its ratio yet.
+    pub(crate) fn start_panels(&mut self)
+        ensures { self.new ≡ record self.old { panels = Some [] } }
+    {
+        self.is_fit = true;
+        self.panels.clear();
+    }
+
+    /// The ratio of one panel more.
+    pub(crate) fn add_panel(&mut self, ratio: u16)
+        requires { IsSomeAnd self.old.panels (λ ratios. length ratios < 8) }
+        ensures { (ratios : List ℕ) → self.old.panels ≡ Some ratios
+            → self.new ≡ record self.old { panels = Some (ratios ++ ratio ∷ []) } }
+    {
+        self.panels.push_reserved(ratio);
+    }
+
     /// The printed ratio of a wall ply under a case, in thousandths. The numbers are of the schedule whose ratios were
     /// printed last.
     pub fn ratio(&self, case: u8, ply: u8) -> u16

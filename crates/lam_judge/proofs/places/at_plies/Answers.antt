@@ -29,8 +29,8 @@ at_ply-ply-requires c =
     let at = ap (λ plies. slice_get plies k) (sym c.items-plies.ensures.items) ∙ slice_get-get_or c.items-plies.result.now k first_no c.loop-k-test.true in
     record {
       ready = ready is k _ at c.requires.tables c.criteria-criteria.ensures c.requires.borne;
-      inner = inner-within is k _ at c.requires.borne (inner-stored is k _ at c.requires.borne (pos 0));
-      outer = outer-within is k _ at c.requires.borne (outer-stored is k _ at c.requires.borne (pos 0));
+      inner = inner-within is k _ at c.requires.borne.thickness (inner-stored is k _ at (pos 0));
+      outer = outer-within is k _ at c.requires.borne.thickness (outer-stored is k _ at (pos 0));
     }
 
 pub returns-then-is_settled : goal.returns-then-is_settled
@@ -40,7 +40,7 @@ returns-then-is_settled c =
     let V = item_verdict (scale_of c.args.stock.now) c.args.loaded.now in
     let case = c.args.loaded.now.case in
     let at = ap (λ plies. slice_get plies k) (sym c.items-plies.ensures.items) ∙ slice_get-get_or c.items-plies.result.now k first_no c.loop-k-test.true in
-    let ply = c.at_ply-ply.ensures ∙ found-is is k _ at c.requires.tables c.criteria-criteria.ensures c.args.loaded.now case _ _ (inner-stored is k _ at c.requires.borne (pos 0)) (outer-stored is k _ at c.requires.borne (pos 0)) in
+    let ply = c.at_ply-ply.ensures ∙ found-is is k _ at c.requires.tables c.criteria-criteria.ensures c.args.loaded.now case _ _ (inner-stored is k _ at (pos 0)) (outer-stored is k _ at (pos 0)) in
     settled (at_plies V case) (λ k p. at_ply case k p.item.kind (V p)) (plies-none V case) (plies-one V case) (placed_plies (items_of c.args.stock.now c.args.layup.now.plies))
     _ c.loop-k.found c.then-found.result k (placed is k _ at) c.at_ply-ply.result (placed-is is k _ at) ply c.loop-k.invariant c.then-found.ensures (sym c.is_settled.ensures ∙ c.if-is_settled.true)
 
@@ -51,7 +51,7 @@ loop-k-preserved c =
     let V = item_verdict (scale_of c.args.stock.now) c.args.loaded.now in
     let case = c.args.loaded.now.case in
     let at = ap (λ plies. slice_get plies k) (sym c.items-plies.ensures.items) ∙ slice_get-get_or c.items-plies.result.now k first_no c.loop-k-test.true in
-    let ply = c.at_ply-ply.ensures ∙ found-is is k _ at c.requires.tables c.criteria-criteria.ensures c.args.loaded.now case _ _ (inner-stored is k _ at c.requires.borne (pos 0)) (outer-stored is k _ at c.requires.borne (pos 0)) in
+    let ply = c.at_ply-ply.ensures ∙ found-is is k _ at c.requires.tables c.criteria-criteria.ensures c.args.loaded.now case _ _ (inner-stored is k _ at (pos 0)) (outer-stored is k _ at (pos 0)) in
     more (at_plies V case) (λ k p. at_ply case k p.item.kind (V p)) (plies-none V case) (plies-one V case) (placed_plies (items_of c.args.stock.now c.args.layup.now.plies))
     _ c.loop-k.found c.then-found.result k (placed is k _ at) c.at_ply-ply.result (placed-is is k _ at) ply c.loop-k.invariant c.then-found.ensures
 
