@@ -13,8 +13,8 @@ mod read; // the line of a node, read
 mod laws; // the laws of trees and reports
 
 pub use laws::{Hanging, Undecided, accepted_keeps_promise, closed_reports_agree};
-pub use line::Line;
 pub use limits::{MOST_COST, MOST_NODES, MOST_RATIO, MOST_RULES};
+pub use line::Line;
 pub use line_words::LineWords;
 pub use node::{Node, Seat, Word};
 pub use read::{TreeFault, read_line, read_number, read_spot};
