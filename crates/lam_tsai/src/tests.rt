@@ -4,7 +4,7 @@ ghost use Rattle.std.specs.Prelude.{◌*◌, ◌≤◌};
 ghost use Rattle.lam_fraction.specs.numbers.Numbers.{reach, unit};
 ghost use Rattle.lam_tsai.specs.FaceStrains.{IsWithinSix};
 
-use crate::{Side, Verdict, level, printed_ratio, verdict};
+use crate::{Side, Verdict, level, meeting_is_a_ratio, printed_ratio, verdict};
 use lam_number::{Enclosure, FaceStrain, Fix};
 use lam_stock::{Stock, read_stock};
 use std::alloc::Global;
@@ -178,4 +178,10 @@ fn strains_six_wide_have_an_answer(rt: HostRuntime) -> Result<(), Fail> {
         Verdict::Straddles
     );
     Ok(())
+}
+
+#[test]
+fn the_law_is_called_at_both_scales() {
+    meeting_is_a_ratio::<Fix<60>>();
+    meeting_is_a_ratio::<Fix<28>>();
 }
