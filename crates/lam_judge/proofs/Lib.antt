@@ -32,3 +32,5 @@ pub mod JudgedSteps
 pub mod StrengthSteps
 -- the computed ratios
 pub mod PrintedSteps
+-- where a judgement names a place, the wall has it
+pub mod JudgedPlaces
