@@ -34,6 +34,8 @@ pub mod TriedSteps
 pub mod Facts
 -- tables and sums together
 pub mod Walking
+-- tables and sums, and what they say of all children
+pub mod ChildBounds
 -- running sums, made at once, and with a ply more or less
 pub mod RunningSteps
 -- the bounds of a partial schedule by itself, from what its calls give

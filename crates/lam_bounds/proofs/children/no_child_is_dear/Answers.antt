@@ -3,7 +3,8 @@ use Rattle.std.proofs.Math.Nat.{mul-le-mul}
 use Rattle.lam_tree.specs.ForceBalance.{net_cost}
 use Rattle.lam_job.specs.Partial.{child}
 use Rattle.lam_bounds.specs.inside.Computed.{capacity_value}
-use Rattle.lam_bounds.proofs.Walking.{sum-cost, low-cost, sum-few, table-some, table-cheap, greatest-small, child-never-dear, all-tried, place-of}
+use Rattle.lam_bounds.proofs.ChildBounds.{child-never-dear}
+use Rattle.lam_bounds.proofs.Walking.{sum-cost, low-cost, sum-few, table-some, table-cheap, greatest-small, all-tried, place-of}
 use Rattle.lam_bounds.specs.inside.RunningSums.{places_of}
 use Rattle.lam_bounds.proofs.children.no_child_is_dear.Goals as goal
 

@@ -2,7 +2,8 @@ use Rattle.std.proofs.Common.{below_more, ◌∙◌, ap, length, arith}
 use Rattle.lam_tree.specs.ForceBalance.{IsShort}
 use Rattle.lam_job.specs.Partial.{child}
 use Rattle.lam_bounds.specs.inside.Computed.{capacity_value}
-use Rattle.lam_bounds.proofs.Walking.{sum-few, child-never-short, all-tried, place-of}
+use Rattle.lam_bounds.proofs.ChildBounds.{child-never-short}
+use Rattle.lam_bounds.proofs.Walking.{sum-few, all-tried, place-of}
 use Rattle.lam_bounds.specs.inside.RunningSums.{places_of}
 use Rattle.lam_bounds.proofs.children.no_child_is_short.Goals as goal
 
