@@ -43,6 +43,13 @@ impl Fixed {
         }
     }
 
+    /// What the fixed plies cost, with the liner.
+    pub fn cost(&self) -> u64
+        ensures { result ≡ self.now.cost }
+    {
+        self.cost
+    }
+
     /// The sums with one ply more: from a partial schedule to its child.
     pub fn push(
         &mut self,
