@@ -36,6 +36,7 @@ pub fn first_short(
         → All (λ w. ¬ IsShort stock.now job.now partial.now c w (λ i. capacity_value i w)) tried_spec }
     ensures some { IfSome result (λ found. IsSomeAnd (slice_get job.now.cases found.0) (λ c.
         IsShort stock.now job.now partial.now c found.1 (λ i. capacity_value i found.1))) }
+    ensures tried { IfSome result (λ found. (k : ℕ) × (slice_get tried_spec k ≡ Some found.1)) }
     ensures so { IsSome result → NoneMayBeBuilt stock.now job.now partial.now }
 {
     if is_never_short(job, stock, bounds, fixed, partial) {
@@ -123,6 +124,7 @@ pub fn first_dear(
         tried_spec }
     ensures some { IfSome result (λ found. IsSomeAnd (slice_get job.now.cases found.0) (λ c.
         limit ≤ net_spec stock.now job.now partial.now c found.1 (λ i. capacity_value i found.1))) }
+    ensures tried { IfSome result (λ found. (k : ℕ) × (slice_get tried_spec k ≡ Some found.1)) }
     ensures so { IsSome result → NoneIsCheaper stock.now job.now partial.now limit }
 {
     if is_never_dear(job, stock, bounds, fixed, partial, limit) {

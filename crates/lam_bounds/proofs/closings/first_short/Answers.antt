@@ -16,3 +16,7 @@ pub returns-clause-none : goal.returns-clause-none
 returns-clause-none c = λ none n case at.
     let within = slice_get_within c.args.job.now.cases n case at in
     all-tried (λ w. ¬ IsShort c.args.stock.now c.args.job.now c.args.partial.now case w (λ i. capacity_value i w)) (λ k w tried. c.loop-case.invariant n (omega (arith, within, ap length c.items-case-end.ensures, ap (λ j. length j.cases) c.job.view_is)) case at k w tried)
+
+pub returns-in-Some-clause-tried : goal.returns-in-Some-clause-tried
+returns-in-Some-clause-tried c =
+    (c.in-Some.k, weight-member c.tried_weights-weights.result c.in-Some.k c.index-weights-k.result c.tried_weights-weights.ensures c.in-Some.ensures.weight)
