@@ -1,16 +1,22 @@
-pub mod FourWords
-pub mod Keys
-pub mod JobBytes
-pub mod CriterionTerms
-pub mod CriterionTrials
-pub mod RatioMet
-pub mod ScaledValue
-pub mod Computed
-pub mod StepFacts
+-- from the bytes of two files to an input
+pub mod InputSteps
+-- names and lines, on examples
+pub mod Trials
+-- the names of a schedule word, one by one
+pub mod Listings
+-- a job that bytes mean is one of its catalogue
+pub mod JobFor
+-- the plies that a schedule word lists
+pub mod ScheduleFacts
+-- cases in range
+pub mod RangeFacts
+-- what the files of an order say
 pub mod OrderFacts
+-- from the steps of a mode to its ending
+pub mod ModeSteps
+-- printed ratios are those that an analysis has to say
+pub mod PrintedLines
+-- from the steps of an analysis to its ending
+pub mod AnalysisSteps
+-- the endings of a run
 pub mod Endings
-pub mod AnalysisText
-pub mod TurnedStress
-pub mod CaseLoad
-pub mod TurningTrials
-pub mod FullRoom

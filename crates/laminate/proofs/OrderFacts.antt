@@ -1,85 +1,72 @@
--- From the files of an order to its answer.
-use Rattle.std.proofs.Common.{◌≡◌, inl, inr, ℕ, ◌≤◌, List, [], Option, Some, None, Result, Ok, Err, refl, subst, ◌∙◌}
-use Rattle.lam_outside.proofs.Growth.{Rose-after}
-use Rattle.laminate.specs.declared.analysis.Analysis.{Analysis}
+-- What the files of an order say, and what follows from it.
+use Rattle.std.proofs.Common.{◌≡◌, ◌⊎◌, inl, inr, ℕ, Bool, true, false, List, Option, Some, None, Result, Ok, Err, refl, sym, ap, subst, ◌∙◌}
+use Rattle.std.specs.Prelude.{IfSome, IsSome}
+use Rattle.lam_words.specs.Reading.{OrderWords, design, analyse, check, sample}
+use Rattle.lam_stock.specs.declared.item.ItemNo.{ItemNo}
 use Rattle.laminate.specs.declared.fault.Fault.{Fault}
+use Rattle.laminate.specs.declared.fault.ScheduleFault.{ScheduleFault}
+use Rattle.laminate.specs.declared.fault.Source.{Source}
 use Rattle.laminate.specs.declared.fault.Source.TheVariants as source
-use Rattle.laminate.specs.declared.fault.Stop.{Stop}
-use Rattle.laminate.specs.declared.fault.Stop.TheVariants as stop
 use Rattle.laminate.specs.declared.input.Input.{Input}
+use Rattle.laminate.specs.declared.status.Status.{Status}
+use Rattle.laminate.specs.declared.status.Status.TheVariants as status
+use Rattle.lam_judge.specs.Judgements.{IsFirstOut}
+use Rattle.laminate.specs.Analysis.{Analyses, RefusesSchedule}
+use Rattle.laminate.specs.Answers.{Answers, MayEnd, Refuses}
 use Rattle.laminate.specs.Input.{input_of}
+use Rattle.laminate.specs.Orders.{FileNames, Holds, IsTold, Say, files_of}
 use Rattle.laminate.specs.Outside.{FilesSeen, IsContent}
-use Rattle.laminate.specs.Reading.{OrderWords}
-use Rattle.laminate.specs.Request.{requested}
-use Rattle.laminate.specs.inside.Steps.{Analyses, AnswersOrder, Gives, Takes, TakesInput}
-use Rattle.laminate.proofs.StepFacts.{asked_of, long_catalogue, long_job, unasked}
+use Rattle.laminate.proofs.InputSteps.{job_is_short}
+use Rattle.laminate.proofs.RangeFacts.{never_out}
 
--- some bytes are those of a file
-some_content : (told : Option (List ℕ)) → (bytes : List ℕ) × IsContent told bytes
-some_content None = ([], tt)
-some_content (Some bytes) = (bytes, refl)
+-- ---- contents that are told
 
-same_content : (a b : Option (List ℕ)) (bytes : List ℕ) → a ≡ b → IsContent a bytes → IsContent b bytes
-same_content a b bytes e is = subst (λ (x : Option (List ℕ)). IsContent x bytes) e is
+told_twice : (told : Option (List ℕ)) (a b : List ℕ) → IsSome told → IsContent told a → IsContent told b → a ≡ b
+told_twice None a b there first second = cc
+told_twice (Some x) a b there first second = sym first ∙ second
 
-pub stopped_at_job : (old new : FilesSeen) (o : OrderWords) (why : Stop)
-    → Takes source.Job (old.contents o.job) (old.faults o.job) (new.faults o.job) (Err why) → TakesInput old new o (Err why)
-stopped_at_job old new o (stop.Fault fault) (inl (rose, e)) = inl (source.Job, rose, e)
-stopped_at_job old new o (stop.Fault fault) (inr (bytes, is, e)) =
-    let other = some_content (old.contents o.catalogue) in
-    inr (bytes, other.0, is, other.1, long_job bytes other.0 fault e)
-stopped_at_job old new o stop.Memory _ = tt
+held_twice : (files : FilesSeen) (name : Option (List ℕ)) (a b : List ℕ) → IfSome name (λ n. IsSome (files.contents n))
+    → Holds files name a → Holds files name b → a ≡ b
+held_twice files None a b told first second = absurd first
+held_twice files (Some n) a b told first second = told_twice (files.contents n) a b told first second
 
--- the files before and after the job was taken
-pub record Between (old mid : FilesSeen) : Type 0 where
-  pub same : (n : List ℕ) → mid.contents n ≡ old.contents n
-  pub grown : (n : List ℕ) → old.faults n ≤ mid.faults n
+-- told files that say an input say nothing else
+pub said_once : (files : FilesSeen) (names : FileNames) (input : Input) (said : Result Input Fault)
+    → IsTold files names → Say files names (Ok input) → Say files names said → said ≡ Ok input
+said_once files names input said told (job, catalogue, is_job, is_catalogue, e) (j, c, is_j, is_c, f) =
+    let same_job : job ≡ j = held_twice files names.job job j (told source.Job tt) is_job is_j in
+    let same_catalogue : catalogue ≡ c =
+    held_twice files names.catalogue catalogue c (told source.Catalogue (job, is_job, job_is_short job catalogue input e)) is_catalogue is_c in
+    sym f ∙ (ap (λ (x : List ℕ). input_of x c) (sym same_job) ∙ (ap (λ (x : List ℕ). input_of job x) (sym same_catalogue) ∙ e))
 
-pub stopped_at_catalogue : (old mid new : FilesSeen) (o : OrderWords) (job : List ℕ) (why : Stop) → Between old mid
-    → Takes source.Job (old.contents o.job) (old.faults o.job) (mid.faults o.job) (Ok job)
-    → Takes source.Catalogue (mid.contents o.catalogue) (mid.faults o.catalogue) (new.faults o.catalogue) (Err why)
-    → TakesInput old new o (Err why)
-stopped_at_catalogue old mid new o job (stop.Fault fault) b first (inl (rose, e)) =
-    inl (
-      source.Catalogue,
-      (Rose-after (old.faults o.catalogue) (mid.faults o.catalogue) (new.faults o.catalogue) (b.grown o.catalogue) rose, (job, first.0, first.1)),
-      e,
-    )
-stopped_at_catalogue old mid new o job (stop.Fault fault) b first (inr (bytes, is, e)) =
-    inr (
-      job,
-      bytes,
-      first.0,
-      same_content (mid.contents o.catalogue) (old.contents o.catalogue) bytes (b.same o.catalogue) is,
-      long_catalogue job bytes fault first.1 e,
-    )
-stopped_at_catalogue old mid new o job stop.Memory b first _ = tt
+-- ---- an analysis
 
--- what was read of the two files is what they say
-pub input_taken : (old mid new : FilesSeen) (o : OrderWords) (job catalogue : List ℕ) (read : Result Input Stop) → Between old mid
-    → Takes source.Job (old.contents o.job) (old.faults o.job) (mid.faults o.job) (Ok job)
-    → Takes source.Catalogue (mid.contents o.catalogue) (mid.faults o.catalogue) (new.faults o.catalogue) (Ok catalogue)
-    → Gives (input_of job catalogue) read → TakesInput old new o read
-input_taken old mid new o job catalogue (Ok input) b first second e =
-    (job, catalogue, first.0, same_content (mid.contents o.catalogue) (old.contents o.catalogue) catalogue (b.same o.catalogue) second.0, e)
-input_taken old mid new o job catalogue (Err (stop.Fault fault)) b first second e =
-    inr (job, catalogue, first.0, same_content (mid.contents o.catalogue) (old.contents o.catalogue) catalogue (b.same o.catalogue) second.0, e)
-input_taken old mid new o job catalogue (Err stop.Memory) b first second _ = tt
+-- a schedule word that is refused has no analysis
+unanalysed : (input : Input) (word text : List ℕ) (fault : ScheduleFault) → RefusesSchedule input word fault → Analyses input word text → ⊥
+unanalysed input word text fault (inl e) a = let f = a.named in cc
+unanalysed input word text fault (inr (listed, case, e, out, _)) a =
+    let f = a.named in
+    let same : listed ≡ a.listed = cc in
+    never_out input.stock input.job a.listed case a.range (subst (λ (x : List ItemNo). IsFirstOut input.stock input.job x case) same out)
 
--- the files stop the answer
-pub files_stop : (old new : FilesSeen) (o : OrderWords) (why : Stop) → TakesInput old new o (Err why) → AnswersOrder old new o (Err why)
-files_stop old new o (stop.Fault fault) (inl unread) = inl unread
-files_stop old new o (stop.Fault fault) (inr (job, catalogue, is_job, is_catalogue, e)) =
-    inr (job, catalogue, is_job, is_catalogue, unasked job catalogue o.schedule fault e)
-files_stop old new o stop.Memory _ = tt
+-- ---- by mode: told contents that are refused have no answer
 
--- the analysis of what the files and the schedule ask for
-pub analysed : (old new : FilesSeen) (o : OrderWords) (input : Input) (a : Analysis) → TakesInput old new o (Ok input)
-    → Analyses (requested o.schedule input) (Ok a) → AnswersOrder old new o (Ok a)
-analysed old new o input a (job, catalogue, is_job, is_catalogue, e) (q, asked, of_q) =
-    (q, (job, catalogue, is_job, is_catalogue, asked_of job catalogue o.schedule input e ∙ asked), of_q)
+pub unanswered : (files : FilesSeen) (o : OrderWords) (fault : Fault) (ended : Status) (text : List ℕ)
+    → IsTold files (files_of o) → Refuses files o fault → Answers files o ended text → ⊥
+unanswered files (design job catalogue options) fault ended text told refuses answers = absurd answers
+unanswered files (analyse job catalogue word) fault ended text told (inl refused) (_, (input, says, _)) =
+    let e = said_once files (files_of (analyse job catalogue word)) input (Err fault) told says refused in cc
+unanswered files (analyse job catalogue word) fault ended text told (inr (other, why, said, refuses, _)) (_, (input, says, analyses)) =
+    let e = said_once files (files_of (analyse job catalogue word)) input (Ok other) told says said in
+    let same : other ≡ input = cc in
+    unanalysed input word text why (subst (λ (x : Input). RefusesSchedule x word why) same refuses) analyses
+unanswered files (check job catalogue report) fault ended text told refuses answers = absurd answers
+unanswered files (sample number options) fault ended text told refuses answers = absurd answers
 
-pub refused : (old new : FilesSeen) (o : OrderWords) (input : Input) (fault : Fault) → TakesInput old new o (Ok input)
-    → Analyses (requested o.schedule input) (Err fault) → AnswersOrder old new o (Err (stop.Fault fault))
-refused old new o input fault (job, catalogue, is_job, is_catalogue, e) asked =
-    inr (job, catalogue, is_job, is_catalogue, asked_of job catalogue o.schedule input e ∙ asked)
+-- ---- by mode: the statuses of an answer
+
+pub may_end : (files : FilesSeen) (o : OrderWords) (ended : Status) (text : List ℕ) → Answers files o ended text → MayEnd o ended
+may_end files (design job catalogue options) ended text answers = absurd answers
+may_end files (analyse job catalogue word) ended text (e, _) = e
+may_end files (check job catalogue report) ended text answers = absurd answers
+may_end files (sample number options) ended text answers = absurd answers

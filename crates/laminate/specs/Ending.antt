@@ -1,82 +1,63 @@
 -- How a run ends: the table of statuses, with what a run that ended with each of them did.
-use Rattle.std.specs.Prelude.{◌≡◌, ◌⊎◌, ℕ, List, Option, Some, None, Result, Ok, Err}
+use Rattle.std.specs.Prelude.{◌≡◌, ◌⊎◌, ℕ, List, Option, Some, None}
 use Rattle.lam_outside.specs.Counts.{Rose}
+use Rattle.lam_words.specs.Reading.{OrderWords}
 use Rattle.laminate.specs.declared.fault.Fault.{Fault}
-use Rattle.laminate.specs.declared.fault.Fault.TheVariants.{Usage, CannotRead}
+use Rattle.laminate.specs.declared.fault.Fault.TheVariants as fault
 use Rattle.laminate.specs.declared.fault.Source.{Source}
-use Rattle.laminate.specs.declared.fault.Source.TheVariants as source
 use Rattle.laminate.specs.declared.status.Status.{Status}
 use Rattle.laminate.specs.declared.status.Status.TheVariants as status
-use Rattle.laminate.specs.Analysis.{analysis_of}
-use Rattle.laminate.specs.Faults.{fault_line, fault_status}
-use Rattle.laminate.specs.Input.{within_length}
-use Rattle.laminate.specs.Outside.{FilesSeen, IsContent, Outside, SinkFailed, Wrote, WrotePrefix}
-use Rattle.laminate.specs.Reading.{OrderWords}
-use Rattle.laminate.specs.Request.{Request, request_of, IsRatioOf}
+use Rattle.laminate.specs.Answers.{Answers, Refuses}
+use Rattle.laminate.specs.Faults.{fault_line}
+use Rattle.laminate.specs.Orders.{AllRead, IsTold, Unread, files_of}
+use Rattle.laminate.specs.Outside.{FilesSeen, Outside, SinkFailed, Wrote, WrotePrefix}
 
--- the name of a file that an order takes
-abbrev pub name_of : OrderWords → Source → List ℕ
-name_of o source.Job = o.job
-name_of o source.Catalogue = o.catalogue
+-- a text that is due with a status
+abbrev pub Due : (before after : FilesSeen) → Option OrderWords → Status → List ℕ → Type 0
+Due before after order status.Done text = (o : OrderWords) × (order ≡ Some o) × Answers before o status.Done text
+Due before after order status.Open text = (o : OrderWords) × (order ≡ Some o) × Answers before o status.Open text
+Due before after order status.Usage text = (order ≡ None) × (text ≡ fault_line fault.Usage)
+Due before after order status.Refused text =
+    (o : OrderWords) × (f : Fault) × (order ≡ Some o) × Refuses before o f × (text ≡ fault_line f)
+Due before after order status.ReadFault text =
+    (o : OrderWords) × (file : Source) × (order ≡ Some o) × Unread before after (files_of o) file
+    × (text ≡ fault_line (fault.CannotRead file))
+Due before after order status.WriteFault text = ⊥
+Due before after order status.Memory text = ⊥
+Due before after order status.ReportRefused text = (o : OrderWords) × (order ≡ Some o) × Answers before o status.ReportRefused text
 
--- the count of faults of a file of the order rose
-abbrev pub RoseFor : (old new : FilesSeen) → OrderWords → Source → Type 0
-RoseFor old new o file = Rose (old.faults (name_of o file)) (new.faults (name_of o file))
+-- all of a text that is due with the status was written
+abbrev pub WroteDue : {K : Type 0} → Outside K → Option OrderWords → Status → Type 0
+WroteDue out order ended = (text : List ℕ) × Due out.files out.files_after order ended text × Wrote out text
 
--- a file of the order could not be read: the count of its name rose. The catalogue is taken after a job within its length
-abbrev pub Unread : (old new : FilesSeen) → OrderWords → Source → Type 0
-Unread old new o source.Job = RoseFor old new o source.Job
-Unread old new o source.Catalogue =
-    RoseFor old new o source.Catalogue
-    × ((job : List ℕ) × IsContent (old.contents o.job) job × (within_length source.Job job ≡ Ok job))
-
--- what the files and the schedule of an order ask for: a request, or the first refusal
-abbrev pub Asks : FilesSeen → OrderWords → Result Request Fault → Type 0
-Asks old o asked =
-    (job : List ℕ) × (catalogue : List ℕ) × IsContent (old.contents o.job) job × IsContent (old.contents o.catalogue) catalogue
-    × (request_of job catalogue o.schedule ≡ asked)
-
--- the answer that an order has, and what became of its text: the analysis of what it asks for, with a ratio that the ply has
-abbrev pub Answered : FilesSeen → OrderWords → (List ℕ → Type 0) → Type 0
-Answered old o Became = (q : Request) × (r : ℕ) × Asks old o (Ok q) × IsRatioOf q r × Became (analysis_of q.item.cost r)
-
--- what is due with a status, and what became of its text
-abbrev pub Due : (old new : FilesSeen) → Option OrderWords → Status → (List ℕ → Type 0) → Type 0
-Due old new order status.Done Became = (o : OrderWords) × (order ≡ Some o) × Answered old o Became
-Due old new order status.Open Became = ⊥
-Due old new order status.Usage Became = (order ≡ None) × Became (fault_line Usage)
-Due old new order status.Refused Became =
-    (o : OrderWords) × (fault : Fault) × (order ≡ Some o) × Asks old o (Err fault) × Became (fault_line fault)
-Due old new order status.ReadFault Became =
-    (o : OrderWords) × (file : Source) × (order ≡ Some o) × Unread old new o file × Became (fault_line (CannotRead file))
-Due old new order status.WriteFault Became = ⊥
-Due old new order status.Memory Became = ⊥
-Due old new order status.ReportRefused Became = ⊥
-
--- what a run that ended with a status did: it wrote all that is due with the status; or a prefix of what is due with
--- another, and the sink failed; or memory ran out, and the sink is as it was
+-- what a run that ended with a status did: it wrote what is due with the status; or a prefix of what is due with another,
+-- and the sink failed; or memory ran out, and the sink is as it was
 abbrev pub Ending : {K : Type 0} → Outside K → Option OrderWords → Status → Type 0
-Ending out order status.Done = Due out.files out.files_after order status.Done (Wrote out)
-Ending out order status.Open = Due out.files out.files_after order status.Open (Wrote out)
-Ending out order status.Usage = Due out.files out.files_after order status.Usage (Wrote out)
-Ending out order status.Refused = Due out.files out.files_after order status.Refused (Wrote out)
-Ending out order status.ReadFault = Due out.files out.files_after order status.ReadFault (Wrote out)
+Ending out order status.Done = WroteDue out order status.Done
+Ending out order status.Open = WroteDue out order status.Open
+Ending out order status.Usage = WroteDue out order status.Usage
+Ending out order status.Refused = WroteDue out order status.Refused
+Ending out order status.ReadFault = WroteDue out order status.ReadFault
 Ending out order status.WriteFault =
-    ((due : Status) × Due out.files out.files_after order due (WrotePrefix out)) × SinkFailed out
+    ((due : Status) × (text : List ℕ) × Due out.files out.files_after order due text × WrotePrefix out text) × SinkFailed out
 Ending out order status.Memory = out.whole_after ≡ out.whole
-Ending out order status.ReportRefused = Due out.files out.files_after order status.ReportRefused (Wrote out)
+Ending out order status.ReportRefused = WroteDue out order status.ReportRefused
 
 -- a run that should end with a status does so, but for a write fault and want of memory
 abbrev pub EndsAs : Status → Status → Type 0
 EndsAs due ended = (ended ≡ due) ⊎ (ended ≡ status.WriteFault) ⊎ (ended ≡ status.Memory)
 
--- the status that is due to what is asked for
-abbrev pub status_due : Result Request Fault → Status
-status_due (Ok q) = status.Done
-status_due (Err fault) = fault_status fault
+-- ---- what has to end with a refusal, and what with an answer
 
--- the files tell a job and a catalogue, and the count of neither name rose
-pub record Readable (old new : FilesSeen) (o : OrderWords) (job catalogue : List ℕ) : Type 0 where
-  pub job_told : old.contents o.job ≡ Some job
-  pub catalogue_told : old.contents o.catalogue ≡ Some catalogue
-  pub steady : (file : Source) → ¬ (RoseFor old new o file)
+-- each file that the order reaches is told and was read, and a fault is the first cause to refuse the order
+pub record MustRefuse {K : Type 0} (out : Outside K) (o : OrderWords) (f : Fault) : Type 0 where
+  pub read : AllRead out.files out.files_after (files_of o)
+  pub told : IsTold out.files (files_of o)
+  pub refuses : Refuses out.files o f
+
+-- each file that the order reaches was read, nothing refuses the order, and no count of the sink rose
+pub record MustAnswer {K : Type 0} (out : Outside K) (o : OrderWords) : Type 0 where
+  pub read : AllRead out.files out.files_after (files_of o)
+  pub valid : (f : Fault) → ¬ Refuses out.files o f
+  pub faults : ¬ Rose out.sink.faults out.sink_after.faults
+  pub stalls : ¬ Rose out.sink.stalls out.sink_after.stalls

@@ -1,5 +1,5 @@
 -- The files and the sink of a run, before it and after it.
-use Rattle.std.specs.Prelude.{◌≡◌, ◌⊎◌, ℕ, List, Option, IfSome}
+use Rattle.std.specs.Prelude.{◌≡◌, ◌⊎◌, ℕ, ◌≤◌, List, Option, IfSome}
 use Rattle.std.specs.Io.KnownBytes.{Appends}
 use Rattle.lam_outside.specs.Counts.{Rose}
 use Rattle.lam_outside.specs.Told.{GrowsByPrefix}
@@ -34,6 +34,25 @@ pub record Outside (K : Type 0) : Type 0 where
   pub whole : K
   pub whole_after : K
 
+-- ---- what no run changes
+
+-- the contents of files stay, and no count of their faults falls
+pub record FilesStay (before after : FilesSeen) : Type 0 where
+  pub contents : (name : List ℕ) → after.contents name ≡ before.contents name
+  pub faults : (name : List ℕ) → before.faults name ≤ after.faults name
+
+-- no count of a sink falls, and the numbers that it was made on stay
+pub record SinkStays (before after : SinkSeen) : Type 0 where
+  pub faults : before.faults ≤ after.faults
+  pub stalls : before.stalls ≤ after.stalls
+  pub terms : after.terms ≡ before.terms
+
+pub record IsSteady {K : Type 0} (out : Outside K) : Type 0 where
+  pub files : FilesStay out.files out.files_after
+  pub sink : SinkStays out.sink out.sink_after
+
+-- ---- what became of a text
+
 -- all of the text was written, and nothing else
 abbrev pub Wrote : {K : Type 0} → Outside K → List ℕ → Type 0
 Wrote out text = Appends out.sink.written out.sink_after.written text
@@ -46,18 +65,22 @@ WrotePrefix out text = GrowsByPrefix out.sink.written out.sink_after.written tex
 abbrev pub SinkFailed : {K : Type 0} → Outside K → Type 0
 SinkFailed out = Rose out.sink.faults out.sink_after.faults ⊎ Rose out.sink.stalls out.sink_after.stalls
 
--- what files tell, by what tells it
-abbrev pub seen : {F : Type 0} → (F → Contents) → (F → List ℕ → ℕ) → F → FilesSeen
-seen contents faults files = record { contents = contents files; faults = faults files }
+-- ---- by what tells of them
 
--- files and sink before and after, by what tells of them
+abbrev pub files_seen : {F : Type 0} → (F → Contents) → (F → List ℕ → ℕ) → F → FilesSeen
+files_seen contents faults files = record { contents = contents files; faults = faults files }
+
+abbrev pub sink_seen : {K : Type 0} → (K → Option (List ℕ)) → (K → ℕ) → (K → ℕ) → (K → List ℕ) → K → SinkSeen
+sink_seen written faults stalls terms sink =
+    record { written = written sink; faults = faults sink; stalls = stalls sink; terms = terms sink }
+
 abbrev pub outside : {F K : Type 0} → (F → Contents) → (F → List ℕ → ℕ)
     → (K → Option (List ℕ)) → (K → ℕ) → (K → ℕ) → (K → List ℕ) → (files files_after : F) → (sink sink_after : K) → Outside K
 outside contents read_faults written faults stalls terms f g k l = record {
-  files = seen contents read_faults f;
-  files_after = seen contents read_faults g;
-  sink = record { written = written k; faults = faults k; stalls = stalls k; terms = terms k };
-  sink_after = record { written = written l; faults = faults l; stalls = stalls l; terms = terms l };
+  files = files_seen contents read_faults f;
+  files_after = files_seen contents read_faults g;
+  sink = sink_seen written faults stalls terms k;
+  sink_after = sink_seen written faults stalls terms l;
   whole = k;
   whole_after = l;
 }

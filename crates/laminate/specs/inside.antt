@@ -1,4 +1,4 @@
-pub mod Spelled
+pub mod Listing
+pub mod Ranges
 pub mod Steps
-pub mod StrengthRatio
-pub mod ScaledCriterion
+pub mod Analysed

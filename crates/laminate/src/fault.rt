@@ -1,20 +1,42 @@
 //! The faults that end a run, with their lines and their statuses.
 
 ghost use Rattle.std.specs.Prelude.{◌≡◌, Some};
-ghost use Rattle.laminate.specs.Faults.{cause_text, fault_status, fault_text};
+ghost use Rattle.laminate.specs.Faults.{fault_status, fault_text, job_text, schedule_text, stock_text};
 
 use crate::status::Status;
-use lam_stock::{StockCause, StockFault};
+use lam_job::JobFault;
+use lam_stock::StockFault;
 use std::fmt;
+
+// The words of causes, files and places.
+mod cause_words;
+
+use cause_words::{
+    Key, Number, job_cause_word, number_shown, source_word, stock_cause_word, table_word,
+};
 
 /// A file that a run takes.
 #[derive(Clone, Copy, Debug, PartialEq, Eq)]
 pub enum Source {
     Job,
     Catalogue,
+    Report,
 }
 
-/// Why there is no analysis.
+/// Why a schedule word is refused. Names and cases are counted from 1.
+#[derive(Clone, Copy, Debug, PartialEq, Eq)]
+pub enum ScheduleFault {
+    /// It is empty.
+    Empty,
+    /// It has more names than a schedule may list plies.
+    Many,
+    /// A name is that of no item of the catalogue.
+    Name(u8),
+    /// A load is out of range for the wall.
+    Range(u8),
+}
+
+/// Why an order has no answer.
 #[derive(Clone, Copy, Debug)]
 pub enum Fault {
     /// The words have no reading.
@@ -25,8 +47,10 @@ pub enum Fault {
     TooLong(Source),
     /// The catalogue has a first cause to be refused.
     Catalogue(StockFault),
-    /// The content asks for what isn't built yet.
-    Unbuilt,
+    /// The job has a first cause to be refused.
+    Job(JobFault),
+    /// The schedule word is refused.
+    Schedule(ScheduleFault),
 }
 
 /// What ends the work on an order: a fault that is written, or want of memory.
@@ -44,7 +68,9 @@ impl Fault {
         match self {
             Fault::Usage => Status::Usage,
             Fault::CannotRead(_) => Status::ReadFault,
-            Fault::TooLong(_) | Fault::Catalogue(_) | Fault::Unbuilt => Status::Refused,
+            Fault::TooLong(_) | Fault::Catalogue(_) | Fault::Job(_) | Fault::Schedule(_) => {
+                Status::Refused
+            }
         }
     }
 }
@@ -59,40 +85,67 @@ impl fmt::Display for Fault {
                 f,
                 "usage: laminate design JOB CATALOGUE | analyse JOB CATALOGUE SCHEDULE | check JOB CATALOGUE REPORT | sample N; options of design and sample: --guide cheapest|thickest|learner, --nodes N"
             ),
-            Fault::CannotRead(Source::Job) => write!(f, "cannot read job"),
-            Fault::CannotRead(Source::Catalogue) => write!(f, "cannot read catalogue"),
-            Fault::TooLong(Source::Catalogue) => write!(f, "refused catalogue: too long"),
-            Fault::Catalogue(fault) => {
-                let row = fault.row;
-                let cause = cause_word(fault.cause);
-                write!(f, "refused catalogue: record {row} {cause}")
+            Fault::CannotRead(file) => {
+                let file = source_word(*file);
+                write!(f, "cannot read {file}")
             }
-            Fault::TooLong(Source::Job) | Fault::Unbuilt => write!(f, "refused unbuilt"),
+            Fault::TooLong(file) => {
+                let file = source_word(*file);
+                write!(f, "refused {file}: too long")
+            }
+            Fault::Catalogue(fault) => {
+                let why = StockLine(*fault);
+                write!(f, "refused catalogue: {why}")
+            }
+            Fault::Job(fault) => {
+                let why = JobLine(*fault);
+                write!(f, "refused job: {why}")
+            }
+            Fault::Schedule(fault) => write!(f, "refused schedule: {fault}"),
         }
     }
 }
 
-/// The word that a cause is printed as.
-fn cause_word(cause: StockCause) -> &'static str
-    ensures { result.now ≡ cause_text cause }
-{
-    match cause {
-        StockCause::Empty => "empty",
-        StockCause::Header => "header",
-        StockCause::Many => "many",
-        StockCause::Fields => "fields",
-        StockCause::Name => "name",
-        StockCause::Twice => "twice",
-        StockCause::Kind => "kind",
-        StockCause::Number => "number",
-        StockCause::Range => "range",
-        StockCause::Poisson => "poisson",
-        StockCause::Ratio => "ratio",
-        StockCause::Cross => "f12",
-        StockCause::Slack => "slack",
-        StockCause::Unit => "unit",
-        StockCause::Half => "half",
-        StockCause::NoItem => "none",
-        StockCause::Spread => "spread",
+/// What a line says of a catalogue's fault.
+#[derive(Clone, Copy)]
+struct StockLine(StockFault);
+
+impl fmt::Display for StockLine {
+    ghost output = { λ line. Some (stock_text line.0) };
+
+    fn fmt<W: fmt::Write>(&self, f: &mut fmt::Formatter<W>) -> fmt::Result {
+        let row = self.0.row;
+        let cause = stock_cause_word(self.0.cause);
+        write!(f, "record {row} {cause}")
+    }
+}
+
+/// What a line says of a job's fault.
+#[derive(Clone, Copy)]
+struct JobLine(JobFault);
+
+impl fmt::Display for JobLine {
+    ghost output = { λ line. Some (job_text line.0) };
+
+    fn fmt<W: fmt::Write>(&self, f: &mut fmt::Formatter<W>) -> fmt::Result {
+        let JobFault { place, cause } = self.0;
+        let table = table_word(place.table);
+        let number = Number(number_shown(place.table, place.number));
+        let key = Key(place.key);
+        let cause = job_cause_word(cause);
+        write!(f, "{table}{number}{key} {cause}")
+    }
+}
+
+impl fmt::Display for ScheduleFault {
+    ghost output = { λ fault. Some (schedule_text fault) };
+
+    fn fmt<W: fmt::Write>(&self, f: &mut fmt::Formatter<W>) -> fmt::Result {
+        match self {
+            ScheduleFault::Empty => write!(f, "empty"),
+            ScheduleFault::Many => write!(f, "many"),
+            ScheduleFault::Name(number) => write!(f, "name {number}"),
+            ScheduleFault::Range(number) => write!(f, "range {number}"),
+        }
     }
 }

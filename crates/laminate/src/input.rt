@@ -1,42 +1,48 @@
 //! The job and the catalogue of an order, taken and read once for all modes.
 
-ghost use Rattle.std.specs.Prelude.{◌≡◌, ◌≤◌, ℕ, List, Ok};
+ghost use Rattle.std.specs.Prelude.{◌≡◌, Ok, Some, Option, List, ℕ};
+ghost use Rattle.lam_job.specs.JobOf.{job_of as job_spec};
 ghost use Rattle.lam_stock.specs.Catalogue.{stock_of as stock_spec};
-ghost use Rattle.laminate.specs.Input.{catalogue_or_fault, input_of, or_unbuilt, within_length};
-ghost use Rattle.laminate.specs.Job.{job_of as job_spec};
-ghost use Rattle.laminate.specs.Outside.{seen};
-ghost use Rattle.laminate.specs.inside.Spelled.{spelled};
+ghost use Rattle.laminate.specs.Input.{as_fault, input_of, most_bytes, within_length};
+ghost use Rattle.laminate.specs.Outside.{FilesStay, files_seen};
+ghost use Rattle.laminate.specs.declared.fault.Fault.TheVariants as fault;
 ghost use Rattle.laminate.specs.inside.Steps.{Gives, Takes, TakesInput};
 
 use crate::fault::{Fault, Source, Stop};
-use crate::job::{JobError, read_job};
-use crate::words::Order;
-use lam_job::Case;
+use lam_job::{Job, JobError, read_job};
 use lam_outside::{Bytes, Files, TakeFault, Taken};
 use lam_stock::{Stock, StockError, read_stock};
 use std::alloc::Global;
 
 /// The greatest length of a job or a catalogue, in bytes.
-const GREATEST_INPUT: u64 = 1_048_576;
+pub const GREATEST_INPUT: u64 = 1_048_576;
 
-/// What the files of an order say.
+/// The greatest length of a report, in bytes.
+pub const GREATEST_REPORT: u64 = 67_108_864;
+
+/// What the job and the catalogue of an order say.
 #[derive(Drop)]
 pub struct Input {
     pub stock: Stock,
-    pub case: Case,
+    pub job: Job,
 }
 
-/// Takes the files of an order by their names, and reads them.
-pub fn take_input<F: Files>(alloc: Global, files: &mut F, order: Order<'_>) -> Result<Input, Stop>
-    ensures same { (n : List ℕ) → F.contents files.new n ≡ F.contents files.old n }
-    ensures never_fall { (n : List ℕ) → F.faults files.old n ≤ F.faults files.new n }
-    ensures takes { TakesInput
-        (seen F.contents F.faults files.old) (seen F.contents F.faults files.new)
-        (spelled order.entry) result }
+/// Takes the job and the catalogue of an order by their names, and reads them.
+pub fn take_input<F: Files>(
+    alloc: Global,
+    files: &mut F,
+    job: &str,
+    catalogue: &str,
+) -> Result<Input, Stop>
+    ensures steady { FilesStay
+        (files_seen F.contents F.faults files.old) (files_seen F.contents F.faults files.new) }
+    ensures takes { (report : Option (List ℕ)) → TakesInput
+        (files_seen F.contents F.faults files.old) (files_seen F.contents F.faults files.new)
+        (record { job = Some job.now; catalogue = Some catalogue.now; report = report }) result }
 {
-    match take(alloc, files, order.job, Source::Job) {
+    match take(alloc, files, job, Source::Job) {
         Err(stop) => Err(stop),
-        Ok(job) => match take(alloc, files, order.catalogue, Source::Catalogue) {
+        Ok(job) => match take(alloc, files, catalogue, Source::Catalogue) {
             Err(stop) => Err(stop),
             Ok(catalogue) => read_input(alloc, job.items(), catalogue.items()),
         },
@@ -44,17 +50,27 @@ pub fn take_input<F: Files>(alloc: Global, files: &mut F, order: Order<'_>) -> R
 }
 
 /// Takes a file within its greatest length.
-fn take<F: Files>(alloc: Global, files: &mut F, name: &str, file: Source) -> Result<Bytes, Stop>
-    ensures same { (n : List ℕ) → F.contents files.new n ≡ F.contents files.old n }
-    ensures never_fall { (n : List ℕ) → F.faults files.old n ≤ F.faults files.new n }
+pub fn take<F: Files>(alloc: Global, files: &mut F, name: &str, file: Source) -> Result<Bytes, Stop>
+    ensures steady { FilesStay
+        (files_seen F.contents F.faults files.old) (files_seen F.contents F.faults files.new) }
     ensures takes { Takes file (F.contents files.old name.now)
         (F.faults files.old name.now) (F.faults files.new name.now) result }
 {
-    match files.take(alloc, name, GREATEST_INPUT) {
+    match files.take(alloc, name, greatest_length(file)) {
         Ok(Taken::Whole(bytes)) => Ok(bytes),
         Ok(Taken::TooLong) => Err(Stop::Fault(Fault::TooLong(file))),
         Err(TakeFault::Failed) => Err(Stop::Fault(Fault::CannotRead(file))),
         Err(TakeFault::Memory) => Err(Stop::Memory),
+    }
+}
+
+/// The greatest length of a file.
+fn greatest_length(file: Source) -> u64
+    ensures { result ≡ most_bytes file }
+{
+    match file {
+        Source::Job | Source::Catalogue => GREATEST_INPUT,
+        Source::Report => GREATEST_REPORT,
     }
 }
 
@@ -66,15 +82,15 @@ fn read_input(alloc: Global, job: &[u8], catalogue: &[u8]) -> Result<Input, Stop
 {
     match stock_of(alloc, catalogue) {
         Err(stop) => Err(stop),
-        Ok(stock) => match job_of(alloc, job) {
+        Ok(stock) => match job_of(alloc, job, &stock) {
             Err(stop) => Err(stop),
-            Ok(case) => Ok(Input { stock, case }),
+            Ok(job) => Ok(Input { stock, job }),
         },
     }
 }
 
 fn stock_of(alloc: Global, bytes: &[u8]) -> Result<Stock, Stop>
-    ensures { Gives (catalogue_or_fault (stock_spec bytes.now)) result }
+    ensures { Gives (as_fault fault.Catalogue (stock_spec bytes.now)) result }
 {
     match read_stock(alloc, bytes) {
         Ok(stock) => Ok(stock),
@@ -83,12 +99,12 @@ fn stock_of(alloc: Global, bytes: &[u8]) -> Result<Stock, Stop>
     }
 }
 
-fn job_of(alloc: Global, bytes: &[u8]) -> Result<Case, Stop>
-    ensures { Gives (or_unbuilt (job_spec bytes.now)) result }
+fn job_of(alloc: Global, bytes: &[u8], stock: &Stock) -> Result<Job, Stop>
+    ensures { Gives (as_fault fault.Job (job_spec bytes.now stock.now)) result }
 {
-    match read_job(alloc, bytes) {
-        Ok(case) => Ok(case),
-        Err(JobError::Unbuilt) => Err(Stop::Fault(Fault::Unbuilt)),
+    match read_job(alloc, bytes, stock) {
+        Ok(job) => Ok(job),
+        Err(JobError::Refused(fault)) => Err(Stop::Fault(Fault::Job(fault))),
         Err(JobError::Memory) => Err(Stop::Memory),
     }
 }

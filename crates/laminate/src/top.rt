@@ -1,150 +1,147 @@
 //! The top call: from the words and the files to the text and the status.
 
-ghost use Rattle.std.specs.Prelude.{◌≡◌, ◌≤◌, ◌⊎◌, ℕ, List, None, Some, Err, IfOk, string_bytes};
-ghost use Rattle.std.specs.Io.KnownBytes.{Appends};
-ghost use Rattle.lam_outside.specs.Counts.{Rose};
-ghost use Rattle.lam_outside.specs.Told.{GrowsByPrefix};
-ghost use Rattle.laminate.specs.Ending.{Due, Ending, EndsAs, Readable, RoseFor, status_due};
-ghost use Rattle.laminate.specs.Input.{within_length};
-ghost use Rattle.laminate.specs.Outside.{outside, seen};
-ghost use Rattle.laminate.specs.Reading.{OrderWords, order_of};
-ghost use Rattle.laminate.specs.Request.{request_of};
+ghost use Rattle.std.specs.Prelude.{◌≡◌, ◌⊎◌, ◌<◌, ◌^◌, length, All, None, Some, Option, option_and_then};
+ghost use Rattle.lam_words.specs.Reading.{OrderWords};
+ghost use Rattle.lam_words.specs.Spelled.{spelled};
+ghost use Rattle.laminate.specs.Answers.{MayEnd};
+ghost use Rattle.laminate.specs.Ending.{Ending, EndsAs, MustAnswer, MustRefuse};
+ghost use Rattle.laminate.specs.Faults.{fault_line, fault_status};
+ghost use Rattle.laminate.specs.Orders.{if_built, order_of};
+ghost use Rattle.laminate.specs.Outside.{IsSteady, SinkStays, outside, sink_seen};
 ghost use Rattle.laminate.specs.declared.fault.Fault.{Fault};
-ghost use Rattle.laminate.specs.declared.fault.Source.{Source};
-ghost use Rattle.laminate.specs.inside.Steps.{AnswersWords, Says, Writes};
+ghost use Rattle.laminate.specs.inside.Steps.{Does, IsRead, WritesLine, WritesText};
 
-use crate::analysis::{Analysis, analysis_text};
 use crate::fault::{Fault, Stop};
 use crate::modes::analyse;
 use crate::status::Status;
-use crate::words::read_words;
+use lam_guide::Guide;
 use lam_outside::{Files, Sink, put_text};
-use std::alloc::{AllocError, Global};
-
-/// What is to be written, and the status that goes with it.
-#[derive(Drop)]
-struct Reply {
-    status: Status,
-    text: String,
-}
+use lam_words::{Order, WordsError, read_words};
+use std::alloc::Global;
 
 /// Does what the words ask for, and says how it ended. Nothing is written before the whole answer
-/// is known.
+/// is known. The guides are those of the names that the words may give, in their order; those that
+/// the order does not need are dropped before a file is taken.
 pub fn run<F: Files, K: Sink>(
     alloc: Global,
     words: &[String],
     files: &mut F,
     sink: &mut K,
+    guides: Vec<Box<dyn Guide>>,
 ) -> Status
-    ensures same { (n : List ℕ) → F.contents files.new n ≡ F.contents files.old n }
-    ensures never_fall { (n : List ℕ) → F.faults files.old n ≤ F.faults files.new n }
-    ensures faults_never_fall { K.faults sink.old ≤ K.faults sink.new }
-    ensures stalls_never_fall { K.stalls sink.old ≤ K.stalls sink.new }
-    ensures terms { K.terms sink.new ≡ K.terms sink.old }
-    ensures ending { Ending
-        (outside F.contents F.faults K.written K.faults K.stalls K.terms
-        files.old files.new sink.old sink.new)
-        (order_of words.now) result }
-    ensures unread { order_of words.now ≡ None → EndsAs Status.Usage result }
-    ensures long_job { (o : OrderWords) (job : List ℕ) (fault : Fault)
-        → order_of words.now ≡ Some o
-        → F.contents files.old o.job ≡ Some job → within_length Source.Job job ≡ Err fault
-        → ¬ (RoseFor (seen F.contents F.faults files.old) (seen F.contents F.faults files.new)
-        o Source.Job)
-        → EndsAs Status.Refused result }
-    ensures told { (o : OrderWords) (job catalogue : List ℕ) → order_of words.now ≡ Some o
-        → Readable (seen F.contents F.faults files.old) (seen F.contents F.faults files.new)
-        o job catalogue
-        → EndsAs (status_due (request_of job catalogue o.schedule)) result }
-    ensures complete { (o : OrderWords) (job catalogue : List ℕ) → order_of words.now ≡ Some o
-        → Readable (seen F.contents F.faults files.old) (seen F.contents F.faults files.new)
-        o job catalogue
-        → ¬ (Rose (K.faults sink.old) (K.faults sink.new))
-        → ¬ (Rose (K.stalls sink.old) (K.stalls sink.new))
-        → (result ≡ status_due (request_of job catalogue o.schedule)) ⊎ (result ≡ Status.Memory) }
+    requires three { length guides.items ≡ 3 }
+    requires quiet { All (λ g. heard_count g < 2 ^ 62) guides.items }
+    ensures steady { IsSteady (outside F.contents F.faults K.written K.faults K.stalls K.terms
+        files.old files.new sink.old sink.new) }
+    ensures ending { Ending (outside F.contents F.faults K.written K.faults K.stalls K.terms
+        files.old files.new sink.old sink.new) (order_of words.now) result }
+    ensures usage { order_of words.now ≡ None → EndsAs Status.Usage result }
+    ensures refused { (o : OrderWords) (fault : Fault) → order_of words.now ≡ Some o
+        → MustRefuse (outside F.contents F.faults K.written K.faults K.stalls K.terms
+        files.old files.new sink.old sink.new) o fault → EndsAs Status.Refused result }
+    ensures complete { (o : OrderWords) → order_of words.now ≡ Some o
+        → MustAnswer (outside F.contents F.faults K.written K.faults K.stalls K.terms
+        files.old files.new sink.old sink.new) o → MayEnd o result ⊎ (result ≡ Status.Memory) }
 {
-    respond(alloc, words, files, sink)
+    let order = read_words(alloc, words);
+    // no mode that is built searches
+    drop(guides);
+    respond(alloc, order, files, sink)
 }
 
-/// Answers the words, and writes the reply.
+/// Does what words ask for that were read, or writes that they have no reading.
 fn respond<F: Files, K: Sink>(
     alloc: Global,
-    words: &[String],
+    order: Result<Order, WordsError>,
     files: &mut F,
     sink: &mut K,
 ) -> Status
-    ensures same { (n : List ℕ) → F.contents files.new n ≡ F.contents files.old n }
-    ensures never_fall { (n : List ℕ) → F.faults files.old n ≤ F.faults files.new n }
-    ensures faults_never_fall { K.faults sink.old ≤ K.faults sink.new }
-    ensures stalls_never_fall { K.stalls sink.old ≤ K.stalls sink.new }
-    ensures terms { K.terms sink.new ≡ K.terms sink.old }
-    ensures ending { Ending
-        (outside F.contents F.faults K.written K.faults K.stalls K.terms
-        files.old files.new sink.old sink.new)
-        (order_of words.now) result }
+    ensures steady { IsSteady (outside F.contents F.faults K.written K.faults K.stalls K.terms
+        files.old files.new sink.old sink.new) }
+    ensures ending { (asked : Option OrderWords) → IsRead order asked
+        → Ending (outside F.contents F.faults K.written K.faults K.stalls K.terms
+        files.old files.new sink.old sink.new) (option_and_then if_built asked) result }
 {
-    match reply_to(alloc, words, files) {
-        Ok(reply) => write_reply(&reply, sink),
+    match order {
+        Ok(order) => obey(alloc, &order, files, sink),
+        Err(error) => match error {
+            WordsError::Usage => write_fault(alloc, &Fault::Usage, sink),
+            WordsError::Memory => Status::Memory,
+        },
+    }
+}
+
+/// Does what an order asks for, and says how it ended.
+fn obey<F: Files, K: Sink>(alloc: Global, order: &Order, files: &mut F, sink: &mut K) -> Status
+    ensures steady { IsSteady (outside F.contents F.faults K.written K.faults K.stalls K.terms
+        files.old files.new sink.old sink.new) }
+    ensures ending { Ending (outside F.contents F.faults K.written K.faults K.stalls K.terms
+        files.old files.new sink.old sink.new) (if_built (spelled order.now)) result }
+{
+    match answer(alloc, order, files, sink) {
+        Ok(status) => status,
+        Err(Stop::Fault(fault)) => write_fault(alloc, &fault, sink),
+        Err(Stop::Memory) => Status::Memory,
+    }
+}
+
+/// The answer to an order, by its mode.
+fn answer<F: Files, K: Sink>(
+    alloc: Global,
+    order: &Order,
+    files: &mut F,
+    sink: &mut K,
+) -> Result<Status, Stop>
+    ensures steady { IsSteady (outside F.contents F.faults K.written K.faults K.stalls K.terms
+        files.old files.new sink.old sink.new) }
+    ensures does { Does (outside F.contents F.faults K.written K.faults K.stalls K.terms
+        files.old files.new sink.old sink.new) (if_built (spelled order.now)) result }
+{
+    match order {
+        Order::Analyse {
+            job,
+            catalogue,
+            schedule,
+        } => analyse::answer(
+            alloc,
+            files,
+            sink,
+            job.as_str(),
+            catalogue.as_str(),
+            schedule.as_str(),
+        ),
+        // modes that aren't built
+        Order::Design { .. } | Order::Check { .. } | Order::Sample { .. } => {
+            Err(Stop::Fault(Fault::Usage))
+        }
+    }
+}
+
+/// Writes the line of a fault, and says how the run ends.
+fn write_fault<K: Sink>(alloc: Global, fault: &Fault, sink: &mut K) -> Status
+    ensures steady { SinkStays (sink_seen K.written K.faults K.stalls K.terms sink.old)
+        (sink_seen K.written K.faults K.stalls K.terms sink.new) }
+    ensures writes { WritesLine fault.now result
+        (sink_seen K.written K.faults K.stalls K.terms sink.old)
+        (sink_seen K.written K.faults K.stalls K.terms sink.new) sink.old sink.new }
+{
+    match format!(in alloc; "{fault}\n") {
+        Ok(line) => write_text(fault.status(), line.as_bytes(), sink),
         Err(_) => Status::Memory,
     }
 }
 
-/// Writes a reply.
-fn write_reply<K: Sink>(reply: &Reply, sink: &mut K) -> Status
-    ensures faults_never_fall { K.faults sink.old ≤ K.faults sink.new }
-    ensures stalls_never_fall { K.stalls sink.old ≤ K.stalls sink.new }
-    ensures terms { K.terms sink.new ≡ K.terms sink.old }
-    ensures writes { Writes reply.now.status result
-        (Appends (K.written sink.old) (K.written sink.new) (string_bytes reply.now.text))
-        (GrowsByPrefix (K.written sink.old) (K.written sink.new) (string_bytes reply.now.text))
-        (Rose (K.faults sink.old) (K.faults sink.new)
-        ⊎ Rose (K.stalls sink.old) (K.stalls sink.new)) }
+/// Writes a text that is due with a status, and says how the run ends.
+fn write_text<K: Sink>(due: Status, text: &[u8], sink: &mut K) -> Status
+    ensures steady { SinkStays (sink_seen K.written K.faults K.stalls K.terms sink.old)
+        (sink_seen K.written K.faults K.stalls K.terms sink.new) }
+    ensures writes { WritesText due text.now result
+        (sink_seen K.written K.faults K.stalls K.terms sink.old)
+        (sink_seen K.written K.faults K.stalls K.terms sink.new) }
 {
-    match put_text(sink, reply.text.as_bytes()) {
-        Ok(()) => reply.status,
+    match put_text(sink, text) {
+        Ok(()) => due,
         Err(_) => Status::WriteFault,
-    }
-}
-
-/// The reply that is due to the words.
-fn reply_to<F: Files>(alloc: Global, words: &[String], files: &mut F) -> Result<Reply, AllocError>
-    ensures same { (n : List ℕ) → F.contents files.new n ≡ F.contents files.old n }
-    ensures never_fall { (n : List ℕ) → F.faults files.old n ≤ F.faults files.new n }
-    ensures due { IfOk result (λ reply. Due
-        (seen F.contents F.faults files.old) (seen F.contents F.faults files.new)
-        (order_of words.now) reply.status (λ text. string_bytes reply.text ≡ text)) }
-{
-    reply_of(alloc, answer_to(alloc, words, files))
-}
-
-/// The answer to the words.
-fn answer_to<F: Files>(alloc: Global, words: &[String], files: &mut F) -> Result<Analysis, Stop>
-    ensures same { (n : List ℕ) → F.contents files.new n ≡ F.contents files.old n }
-    ensures never_fall { (n : List ℕ) → F.faults files.old n ≤ F.faults files.new n }
-    ensures answers { AnswersWords
-        (seen F.contents F.faults files.old) (seen F.contents F.faults files.new)
-        (order_of words.now) result }
-{
-    match read_words(words) {
-        Some(order) => analyse::answer(alloc, files, order),
-        None => Err(Stop::Fault(Fault::Usage)),
-    }
-}
-
-/// The reply that says an answer.
-fn reply_of(alloc: Global, answer: Result<Analysis, Stop>) -> Result<Reply, AllocError>
-    ensures { IfOk result (λ reply. Says answer reply.status (string_bytes reply.text)) }
-{
-    match answer {
-        Ok(analysis) => Ok(Reply {
-            status: Status::Done,
-            text: analysis_text(alloc, &analysis)?,
-        }),
-        Err(Stop::Fault(fault)) => Ok(Reply {
-            status: fault.status(),
-            text: format!(in alloc; "{fault}\n")?,
-        }),
-        Err(Stop::Memory) => Err(AllocError),
     }
 }
 

@@ -1,95 +1,96 @@
-//! The analysis of the wall that a schedule word names.
+//! The analysis of the schedule that a word names.
 
-ghost use Rattle.std.specs.Prelude.{◌≡◌, ◌≤◌, ℕ, List, IfSome, option_map};
-ghost use Rattle.lam_stock.specs.Stock.{WithinLimits};
-ghost use Rattle.laminate.specs.Outside.{seen};
-ghost use Rattle.laminate.specs.Request.{IsRatioOf, item_named, requested, single_ply};
-ghost use Rattle.laminate.specs.inside.Spelled.{spelled};
-ghost use Rattle.laminate.specs.inside.Steps.{Analyses, AnswersOrder};
+ghost use Rattle.std.specs.Prelude.{Some, ℕ, List};
+ghost use Rattle.lam_job.specs.Schedule.{IsJobFor};
+ghost use Rattle.lam_words.specs.Reading.{analyse};
+ghost use Rattle.laminate.specs.Outside.{IsSteady, SinkStays, outside, sink_seen};
+ghost use Rattle.laminate.specs.inside.Analysed.{AnalysesTo, IsComputed, IsTextOf};
+ghost use Rattle.laminate.specs.inside.Steps.{Does, WritesText};
 
-use crate::analysis::{Analysis, Thousandths};
-use crate::criterion::printed_ratio;
-use crate::fault::{Fault, Stop};
+use crate::fault::{Fault, ScheduleFault, Stop};
 use crate::input::{Input, take_input};
-use crate::turning::stress_in_ply;
-use crate::words::Order;
-use lam_job::{Case, resultants};
-use lam_number::Fix;
-use lam_outside::Files;
-use lam_stock::{Item, Kind, Stock};
-use lam_wall::in_range;
+use crate::range::first_out;
+use crate::schedule::listed_by;
+use crate::status::Status;
+use lam_judge::{Room, ratios};
+use lam_outside::{Files, Sink};
+use lam_report::write_analysis;
+use lam_stock::Stack;
 use std::alloc::Global;
 
-/// Takes the files of an order, and analyses what they and the schedule ask for.
-pub fn answer<F: Files>(alloc: Global, files: &mut F, order: Order<'_>) -> Result<Analysis, Stop>
-    ensures same { (n : List ℕ) → F.contents files.new n ≡ F.contents files.old n }
-    ensures never_fall { (n : List ℕ) → F.faults files.old n ≤ F.faults files.new n }
-    ensures answers { AnswersOrder
-        (seen F.contents F.faults files.old) (seen F.contents F.faults files.new)
-        (spelled order.entry) result }
+/// An analysis, before it is written: the schedule, and its printed ratios.
+#[derive(Drop)]
+struct Analysis {
+    input: Input,
+    listed: Stack,
+    room: Room,
+}
+
+/// Takes the files of an order, and analyses the schedule that the word names.
+pub fn answer<F: Files, K: Sink>(
+    alloc: Global,
+    files: &mut F,
+    sink: &mut K,
+    job: &str,
+    catalogue: &str,
+    schedule: &str,
+) -> Result<Status, Stop>
+    ensures steady { IsSteady (outside F.contents F.faults K.written K.faults K.stalls K.terms
+        files.old files.new sink.old sink.new) }
+    ensures does { Does (outside F.contents F.faults K.written K.faults K.stalls K.terms
+        files.old files.new sink.old sink.new)
+        (Some (analyse job.now catalogue.now schedule.now)) result }
 {
-    match take_input(alloc, files, order) {
+    match take_input(alloc, files, job, catalogue) {
         Err(stop) => Err(stop),
-        Ok(input) => match analyse(&input, order.schedule) {
-            Ok(analysis) => Ok(analysis),
-            Err(fault) => Err(Stop::Fault(fault)),
+        Ok(input) => match analysis_of(alloc, input, schedule) {
+            Err(stop) => Err(stop),
+            Ok(analysis) => Ok(write(&analysis, sink)),
         },
     }
 }
 
-/// Analyses the wall that a schedule word names, under the load of the case.
-fn analyse(input: &Input, schedule: &str) -> Result<Analysis, Fault>
-    ensures { Analyses (requested schedule.now input.now) result }
+/// The analysis of the schedule that a word names.
+fn analysis_of(alloc: Global, input: Input, schedule: &str) -> Result<Analysis, Stop>
+    requires { IsJobFor input.stock input.job }
+    ensures { AnalysesTo input schedule.now result }
 {
-    match ply_of(&input.stock, schedule) {
-        None => Err(Fault::Unbuilt),
-        Some(item) => {
-            let scale = input.stock.scale();
-            if in_range(&scale, item.lamina.t, &resultants(&input.case)) {
-                Ok(analysis_of(item, &input.case))
-            } else {
-                Err(Fault::Unbuilt)
+    let listed = match listed_by(alloc, &input.stock, schedule) {
+        Ok(listed) => listed,
+        Err(fault) => return Err(Stop::Fault(Fault::Schedule(fault))),
+    };
+    match first_out(&input.job, &input.stock, &listed) {
+        Some(case) => Err(Stop::Fault(Fault::Schedule(ScheduleFault::Range(case + 1)))),
+        None => match Room::new(alloc) {
+            Ok(mut room) => {
+                ratios(&input.job, &input.stock, &listed, &mut room);
+                Ok(Analysis {
+                    input,
+                    listed,
+                    room,
+                })
             }
-        }
+            Err(_) => Err(Stop::Memory),
+        },
     }
 }
 
-/// The item that the schedule names, where it is a single ply.
-fn ply_of<'a>(stock: &'a Stock, schedule: &str) -> Option<&'a Item>
-    ensures ply { option_map (λ i. i.now) result ≡ single_ply (item_named schedule.now stock.now) }
-    ensures limits { IfSome result (λ i. WithinLimits i.now) }
+/// Writes an analysis, and says how the run ends.
+fn write<K: Sink>(analysis: &Analysis, sink: &mut K) -> Status
+    requires { IsComputed analysis.now }
+    ensures steady { SinkStays (sink_seen K.written K.faults K.stalls K.terms sink.old)
+        (sink_seen K.written K.faults K.stalls K.terms sink.new) }
+    ensures writes { (text : List ℕ) × IsTextOf analysis.now text × WritesText Status.Done text result
+        (sink_seen K.written K.faults K.stalls K.terms sink.old)
+        (sink_seen K.written K.faults K.stalls K.terms sink.new) }
 {
-    let item = item_of(stock, schedule)?;
-    if item.kind == Kind::Ply {
-        Some(item)
-    } else {
-        None
-    }
-}
-
-/// The item of a name.
-fn item_of<'a>(stock: &'a Stock, name: &str) -> Option<&'a Item>
-    ensures item { option_map (λ i. i.now) result ≡ item_named name.now stock.now }
-    ensures limits { IfSome result (λ i. WithinLimits i.now) }
-{
-    match stock.find(name.as_bytes()) {
-        Some(number) => Some(&stock.items()[number.0 as usize]),
-        None => None,
-    }
-}
-
-/// The analysis of a ply under the forces of a case.
-fn analysis_of(item: &Item, case: &Case) -> Analysis
-    requires limits { WithinLimits item.now }
-    ensures cost { result.cost ≡ item.now.cost }
-    ensures ratio { IsRatioOf (record { item = item.now; case = case.now }) result.ratio.0 }
-{
-    // read here, so that what holds of each case is known
-    let _kind = case.kind;
-    let load = resultants(case);
-    let stress = stress_in_ply(&item.dir, load.nx, load.ny, load.nxy, 4 * item.lamina.t);
-    Analysis {
-        cost: item.cost,
-        ratio: Thousandths(printed_ratio::<Fix<60>>(&item.lamina, &stress)),
+    let Analysis {
+        input,
+        listed,
+        room,
+    } = analysis;
+    match write_analysis(&input.job, &input.stock, listed, room, sink) {
+        Ok(()) => Status::Done,
+        Err(_) => Status::WriteFault,
     }
 }

@@ -1,4 +1,4 @@
-use Rattle.laminate.proofs.StepFacts.{both_read, job_stops, stock_stops}
+use Rattle.laminate.proofs.InputSteps.{both_read, job_stops, stock_stops}
 use Rattle.laminate.proofs.input.read_input.Goals as goal
 
 pub returns-in-Err : goal.returns-in-Err
@@ -13,5 +13,5 @@ returns-in-Err-job_of c =
 
 pub returns-in-Ok-job_of : goal.returns-in-Ok-job_of
 returns-in-Ok-job_of c =
-    both_read c.args.job.now c.args.catalogue.now c.in-Ok.stock c.in-Ok-job_of.case
+    both_read c.args.job.now c.args.catalogue.now c.in-Ok.stock c.in-Ok-job_of.job
     (record { job_is = c.requires.job; catalogue_is = c.requires.catalogue }) c.in-Ok.ensures c.in-Ok-job_of.ensures

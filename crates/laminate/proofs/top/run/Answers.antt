@@ -1,28 +1,29 @@
+use Rattle.std.specs.Prelude.{map, string_bytes}
+use Rattle.lam_words.specs.Reading.{reading}
+use Rattle.laminate.specs.Orders.{order_of}
 use Rattle.laminate.specs.Outside.{outside}
-use Rattle.laminate.specs.Reading.{order_of}
-use Rattle.laminate.proofs.Endings.{completes, told_ends, too_long_ends, unread_ends}
+use Rattle.laminate.proofs.Endings.{completes, is_read, refused_ends, unread_ends}
 use Rattle.laminate.proofs.top.run.Goals as goal
 
-pub returns-clause-unread : goal.returns-clause-unread
-returns-clause-unread g c =
+pub returns-clause-ending : goal.returns-clause-ending
+returns-clause-ending g c =
+    c.respond.ensures.ending (reading (map string_bytes c.args.words.now))
+    (is_read c.read_words-order.result (reading (map string_bytes c.args.words.now)) c.read_words-order.ensures.order c.read_words-order.ensures.usage.0)
+
+pub returns-clause-usage : goal.returns-clause-usage
+returns-clause-usage g c =
     unread_ends (outside g.F.Files.contents g.F.Files.faults g.K.Sink.written g.K.Sink.faults g.K.Sink.stalls g.K.Sink.terms
     c.args.files.now c.respond.new.files c.args.sink.now c.respond.new.sink)
-    (order_of c.args.words.now) c.respond.result c.respond.ensures.ending
+    (order_of c.args.words.now) c.respond.result (returns-clause-ending g c)
 
-pub returns-clause-long_job : goal.returns-clause-long_job
-returns-clause-long_job g c = λ o job fault.
-    too_long_ends (outside g.F.Files.contents g.F.Files.faults g.K.Sink.written g.K.Sink.faults g.K.Sink.stalls g.K.Sink.terms
+pub returns-clause-refused : goal.returns-clause-refused
+returns-clause-refused g c = λ o fault.
+    refused_ends (outside g.F.Files.contents g.F.Files.faults g.K.Sink.written g.K.Sink.faults g.K.Sink.stalls g.K.Sink.terms
     c.args.files.now c.respond.new.files c.args.sink.now c.respond.new.sink)
-    (order_of c.args.words.now) c.respond.result o job fault c.respond.ensures.ending
-
-pub returns-clause-told : goal.returns-clause-told
-returns-clause-told g c = λ o job catalogue.
-    told_ends (outside g.F.Files.contents g.F.Files.faults g.K.Sink.written g.K.Sink.faults g.K.Sink.stalls g.K.Sink.terms
-    c.args.files.now c.respond.new.files c.args.sink.now c.respond.new.sink)
-    (order_of c.args.words.now) c.respond.result o job catalogue c.respond.ensures.ending
+    (order_of c.args.words.now) c.respond.result o fault (returns-clause-ending g c)
 
 pub returns-clause-complete : goal.returns-clause-complete
-returns-clause-complete g c = λ o job catalogue.
+returns-clause-complete g c = λ o.
     completes (outside g.F.Files.contents g.F.Files.faults g.K.Sink.written g.K.Sink.faults g.K.Sink.stalls g.K.Sink.terms
     c.args.files.now c.respond.new.files c.args.sink.now c.respond.new.sink)
-    (order_of c.args.words.now) c.respond.result o job catalogue c.respond.ensures.ending
+    (order_of c.args.words.now) c.respond.result o (returns-clause-ending g c)

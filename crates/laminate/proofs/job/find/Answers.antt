@@ -1,6 +1,0 @@
--- The value at a key is the member of that key.
-use Rattle.toml.proofs.Views.{table_get}
-use Rattle.laminate.proofs.job.find.Goals as goal
-
-pub returns : goal.returns
-returns c = table_get c.get.result c.args.key.now c.args.table.now.entries c.get.ensures.value

@@ -1,6 +1,0 @@
-use Rattle.std.proofs.Common.{◌≡◌, map, drop}
-use Rattle.laminate.specs.Job.{is_among}
-use Rattle.laminate.proofs.job.is_one_of.Given as goal
-
-abbrev pub invariant-loop-known : goal.invariant-loop-known
-invariant-loop-known l = is_among (map (λ k. k.now) (drop l.known-index l.keys)) l.key ≡ is_among (map (λ k. k.now) l.keys) l.key

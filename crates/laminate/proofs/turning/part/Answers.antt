@@ -1,9 +1,0 @@
-use Rattle.std.proofs.Common.{refl}
-use Rattle.lam_fraction.proofs.numbers.Machine.{sizes, fits_in_64, is_exact}
-use Rattle.laminate.proofs.turning.part.Goals as goal
-
-pub overflow_mul-result-2 : goal.overflow_mul-result-2
-overflow_mul-result-2 c = fits_in_64 (search (sizes, c) depth 30 fits 9000) refl
-
-pub returns : goal.returns
-returns c = is_exact (search (sizes, c) depth 30 fits 9000) refl
