@@ -156,7 +156,7 @@ judged-placed stock job listed =
     = subst (λ n. FoundAt (λ at. at < n) (at_panels (panel_over fine scale.q0 (matrices fine scale wall)) 0 job.panels)) zero_panels (panels-found (panel_over fine scale.q0 (matrices fine scale wall)) 0 job.panels) in
     or-broken cases (length wall) panels (first_broken stock job listed) (or_out (first_out stock job listed) (by_strength stock job listed))
     (or-out cases (length wall) panels (first_out stock job listed) (by_strength stock job listed)
-        (findings-placed cases (length wall) panels (at_cases (place_verdict scale wall) (placed_plies wall) 0 job.cases) (at_panels (panel_over fine scale.q0 (matrices fine scale wall)) 0 job.panels) one other))
+    (findings-placed cases (length wall) panels (at_cases (place_verdict scale wall) (placed_plies wall) 0 job.cases) (at_panels (panel_over fine scale.q0 (matrices fine scale wall)) 0 job.panels) one other))
 
 -- ---- how many plies a wall has
 
