@@ -1,8 +1,12 @@
 -- Readers of lines, and what they say of a grammar: a reader takes what the grammar has, and stops at the first line with
 -- which no text of the grammar goes on.
-use Rattle.std.proofs.Common.{◌≡◌, ◌∙◌, refl, sym, ap, subst, ℕ, ◌⊎◌, inl, inr, Bool, true, false, List, [], ◌∷◌, ◌++◌, Option, Some, None, Ok, Err, append_assoc}
+use Rattle.std.proofs.Common.{◌≡◌, ◌∙◌, refl, sym, ap, subst, ℕ, zero, suc, ◌+◌, ◌<◌, ◌≤◌, ◌⊎◌, inl, inr, Bool, true, false, List, [], ◌∷◌, ◌++◌, length, Option, Some, None, Ok, Err, append_assoc, arith}
 use Rattle.std.specs.Prelude.{if◌then◌else◌}
-use Rattle.lam_report.specs.inside.Reading.{Lines, Got, then_got, line_at, by_next}
+use Rattle.std.specs.List.{AllByRecursion}
+use Rattle.std.proofs.lemmas.List.{append-nil}
+use Rattle.lam_report.specs.inside.Reading.{Lines, Got, then_got, line_at, by_next, listed_at}
+use Rattle.lam_report.specs.ReportText.{numbered}
+use Rattle.lam_report.proofs.CutLaws.{is_line}
 
 -- ---- two cuts of one list
 
@@ -46,10 +50,15 @@ pub record Parses {X : Type 0} (G : X → Lines → Type 0) (read : Lines → Go
   pub again : (x : X) (front rest : Lines) → G x front → read (front ++ rest) ≡ Ok (x, rest)
   pub fault : (ls left : Lines) → read ls ≡ Err left → Fault G ls left
   pub alive : (x : X) × (front : Lines) × G x front
+  pub lines : (x : X) (front : Lines) → G x front → AllByRecursion (λ l. is_line l ≡ true) front
+
+all_append : (xs ys : Lines) → AllByRecursion (λ l. is_line l ≡ true) xs → AllByRecursion (λ l. is_line l ≡ true) ys → AllByRecursion (λ l. is_line l ≡ true) (xs ++ ys)
+all_append [] ys one other = other
+all_append (x ∷ xs) ys one other = (one.0, all_append xs ys one.1 other)
 
 -- ---- what is read, and what is left
 
-ok_pair : {X : Type 0} (x y : X) (rest left : Lines) → ◌≡◌ {A = Got X} (Ok (x, rest)) (Ok (y, left)) → (x ≡ y) × (rest ≡ left)
+pub ok_pair : {X : Type 0} (x y : X) (rest left : Lines) → ◌≡◌ {A = Got X} (Ok (x, rest)) (Ok (y, left)) → (x ≡ y) × (rest ≡ left)
 ok_pair {X} x y rest left e =
     let P : Got X → X × Lines = λ r. elim r [ Ok p ↦ p | Err l ↦ (x, l) ] in
     (ap (λ r. (P r).0) e, ap (λ r. (P r).1) e)
@@ -57,7 +66,7 @@ ok_pair {X} x y rest left e =
 err_same : {X : Type 0} (rest left : Lines) → ◌≡◌ {A = Got X} (Err rest) (Err left) → rest ≡ left
 err_same {X = X} rest left e = ap (λ (r : Got X). elim r [ Ok p ↦ rest | Err l ↦ l ]) e
 
-ok_is_not_err : {X : Type 0} (x : X) (rest left : Lines) → ◌≡◌ {A = Got X} (Ok (x, rest)) (Err left) → ⊥
+pub ok_is_not_err : {X : Type 0} (x : X) (rest left : Lines) → ◌≡◌ {A = Got X} (Ok (x, rest)) (Err left) → ⊥
 ok_is_not_err x rest left e = cc
 
 -- ---- nothing
@@ -72,6 +81,7 @@ nothing_parses {X} v = record {
   again = λ x front rest is. ap (λ f. Ok (v, f ++ rest)) is.1 ∙ ap (λ y. Ok (y, rest)) (sym is.0);
   fault = λ ls left e. absurd (ok_is_not_err v ls left e);
   alive = (v, [], (refl, refl));
+  lines = λ x front is. subst (AllByRecursion (λ l. is_line l ≡ true)) (sym is.1) tt;
 }
 
 -- ---- one line
@@ -81,6 +91,7 @@ pub record Spells {X : Type 0} (Fits : X → Type 0) (spelled : X → List ℕ) 
   pub takes : (line : List ℕ) (x : X) → read line ≡ Some x → Fits x × (line ≡ spelled x)
   pub again : (x : X) → Fits x → read (spelled x) ≡ Some x
   pub alive : (x : X) × Fits x
+  pub line : (x : X) → Fits x → is_line (spelled x) ≡ true
 
 abbrev found : {X : Type 0} → Option X → List ℕ → Lines → Got X
 found o line rest = elim o [ Some x ↦ Ok (x, rest) | None ↦ Err (line ∷ rest) ]
@@ -95,6 +106,7 @@ line_parses {X} Fits spelled read spells = record {
   again = λ x front rest is. ap (λ f. line_at read (f ++ rest)) is.1 ∙ ap (λ o. found o (spelled x) rest) (spells.again x is.0);
   fault = fault;
   alive = (spells.alive.0, spelled spells.alive.0 ∷ [], (spells.alive.1, refl));
+  lines = λ x front is. subst (AllByRecursion (λ l. is_line l ≡ true)) (sym is.1) (spells.line x is.0, tt);
 } where
   takes : (ls : Lines) (x : X) (rest : Lines) → line_at read ls ≡ Ok (x, rest) → Taken (OneLine Fits spelled) ls x rest
   takes [] x rest e = absurd (let n : ◌≡◌ {A = Got X} (Err []) (Ok (x, rest)) = e in cc)
@@ -228,6 +240,8 @@ module _ {A Z : Type 0} (G : A → Lines → Type 0) (H : A → Z → Lines → 
     takes = seq_takes;
     again = seq_again;
     fault = seq_fault;
+    lines = λ z front (a, one, other, text, is, is_too). subst (AllByRecursion (λ l. is_line l ≡ true)) (sym text)
+        (all_append one other (first.lines a one is) ((second a one is).lines z other is_too));
     alive = (
         let goes_on = (second first.alive.0 first.alive.1 first.alive.2).alive in
         (goes_on.0, first.alive.1 ++ goes_on.1, (first.alive.0, first.alive.1, goes_on.1, refl, first.alive.2, goes_on.2))
@@ -252,6 +266,7 @@ as_parses {X} G H read to from parses = record {
       }
       );
   alive = (parses.alive.0, parses.alive.1, to parses.alive.0 parses.alive.1 parses.alive.2);
+  lines = λ x front is. parses.lines x front (from x front is);
 }
 
 -- another form of the reader
@@ -261,6 +276,7 @@ same_parses {X} G read other same parses = record {
   again = λ x front rest is. sym (same (front ++ rest)) ∙ parses.again x front rest is;
   fault = λ ls left e. parses.fault ls left (same ls ∙ e);
   alive = parses.alive;
+  lines = parses.lines;
 }
 
 -- ---- one or the other, as the next line says
@@ -343,4 +359,57 @@ module _ {X : Type 0} (G H : X → Lines → Type 0) (test : List ℕ → Bool) 
     again = either_again;
     fault = either_fault;
     alive = (one.alive.0, one.alive.1, inl one.alive.2);
+    lines = λ x front is. elim is [ inl of ↦ one.lines x front of | inr of ↦ other.lines x front of ];
   }
+
+-- ---- so many lines, by their number
+
+-- values that fit, as many as are due, each spelled by its number
+pub record ListOf {X : Type 0} (Fits : X → Type 0) (spelled : ℕ → X → List ℕ) (from count : ℕ) (xs : List X) (front : Lines) : Type 0 where
+  pub many : length xs ≡ count
+  pub fits : AllByRecursion Fits xs
+  pub text : front ≡ numbered spelled from xs
+
+pub listed_parses : {X : Type 0} (Fits : X → Type 0) (spelled : ℕ → X → List ℕ) (read : ℕ → List ℕ → Option X) (bound from count : ℕ) → from + count ≤ bound
+    → ((i : ℕ) → i < bound → Spells Fits (spelled i) (read i)) → Parses (ListOf Fits spelled from count) (listed_at read from count)
+listed_parses {X} Fits spelled read bound from zero within spells =
+    as_parses (Nothing []) (ListOf Fits spelled from 0) (listed_at read from 0) to back (nothing_parses []) where
+      to : (xs : List X) (f : Lines) → Nothing [] xs f → ListOf Fits spelled from 0 xs f
+      to xs f is = subst (λ ys. ListOf Fits spelled from 0 ys f) (sym is.0) (record { many = refl; fits = tt; text = is.1 })
+
+      back : (xs : List X) (f : Lines) → ListOf Fits spelled from 0 xs f → Nothing [] xs f
+      back [] f is = (refl, is.text)
+      back (x ∷ xs) f is = let n : suc (length xs) ≡ 0 = is.many in absurd (omega (arith, n))
+listed_parses {X} Fits spelled read bound from (suc count) within spells =
+    as_parses pair (ListOf Fits spelled from (suc count)) (listed_at read from (suc count)) to back
+    (seq_parses (OneLine Fits (spelled from)) after (line_at (read from)) next (line_parses Fits (spelled from) (read from) (spells from (omega (arith, within))))
+    (λ x f is. seq_parses (ListOf Fits spelled (suc from) count) (λ xs. Nothing (x ∷ xs)) (listed_at read (suc from) count) (λ xs ls. Ok (x ∷ xs, ls))
+    (listed_parses Fits spelled read bound (suc from) count (omega (arith, within)) spells) (λ xs g is. nothing_parses (x ∷ xs)))) where
+      after : X → List X → Lines → Type 0
+      after x = Then (ListOf Fits spelled (suc from) count) (λ xs. Nothing (x ∷ xs))
+
+      next : X → Lines → Got (List X)
+      next x ls = then_got (listed_at read (suc from) count ls) (λ xs ls. Ok (x ∷ xs, ls))
+
+      pair : List X → Lines → Type 0
+      pair = Then (OneLine Fits (spelled from)) after
+
+      to : (ys : List X) (f : Lines) → pair ys f → ListOf Fits spelled from (suc count) ys f
+      to ys f (x, one, other, cut, is, (xs, two, three, cut_too, are, none)) =
+          subst (λ zs. ListOf Fits spelled from (suc count) zs f) (sym none.0) (record {
+            many = ap suc are.many;
+            fits = (is.0, are.fits);
+            text = cut ∙ ap (λ o. o ++ other) is.1 ∙ ap (λ t. spelled from x ∷ t) (cut_too ∙ ap (λ t. two ++ t) none.1 ∙ append-nil two ∙ are.text);
+          })
+
+      back : (ys : List X) (f : Lines) → ListOf Fits spelled from (suc count) ys f → pair ys f
+      back [] f is = let n : 0 ≡ suc count = is.many in absurd (omega (arith, n))
+      back (x ∷ xs) f is =
+          let few : suc (length xs) ≡ suc count = is.many in (
+            x,
+            spelled from x ∷ [],
+            numbered spelled (suc from) xs,
+            is.text,
+            (is.fits.0, refl),
+            (xs, numbered spelled (suc from) xs, [], sym (append-nil (numbered spelled (suc from) xs)), record { many = omega (arith, few); fits = is.fits.1; text = refl }, (refl, refl)),
+          )

@@ -42,7 +42,7 @@ counted line from zero = []
 counted line from (suc count) = line from ∷ counted line (suc from) count
 
 -- the lines of values, each by its number too
-abbrev pub numbered : (ℕ → ℕ → List ℕ) → (from : ℕ) → List ℕ → List (List ℕ)
+abbrev pub numbered : {X : Type 0} → (ℕ → X → List ℕ) → (from : ℕ) → List X → List (List ℕ)
 numbered line from [] = []
 numbered line from (x ∷ xs) = line from x ∷ numbered line (suc from) xs
 

@@ -8,6 +8,13 @@ mod words; // the words and lines of texts
 mod wall; // how many plies carry load, and what all cost
 mod write; // a report, written
 mod analysis; // an analysis, written
+mod spelled; // the lines of a report, each read by itself
+mod steps; // the same, taken one after the other
+mod head; // what stands before the tree, read
+mod fault; // why a report is refused
+mod read; // a report, read
 
 pub use analysis::write_analysis;
+pub use fault::{ReportError, ReportFault};
+pub use read::{MOST_BYTES, read_report, scan_report};
 pub use write::write_report;

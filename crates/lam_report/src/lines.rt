@@ -1,6 +1,6 @@
 // Bytes, read by lines.
 
-ghost use Rattle.std.specs.Prelude.{◌≡◌, ◌<◌, [], length, count_by, IfSome};
+ghost use Rattle.std.specs.Prelude.{◌≡◌, ◌<◌, ◌≤◌, [], length, count_by, IfSome};
 ghost use Rattle.std.specs.List.{position};
 ghost use Rattle.lam_report.specs.LineText.{is_end, whole_lines};
 ghost use Rattle.lam_report.specs.inside.Left.{IsNext, bytes_of, left_of};
@@ -71,14 +71,16 @@ fn end_of_line(bytes: &[u8]) -> Option<usize>
 
 /// How many whole lines there are.
 pub(crate) fn count_lines(bytes: &[u8]) -> usize
-    ensures { result ≡ length (whole_lines bytes.now) }
+    ensures value { result ≡ length (whole_lines bytes.now) }
+    ensures few { result ≤ length bytes.now }
 {
     count_ends(bytes)
 }
 
 // how many bytes end a line
 fn count_ends(bytes: &[u8]) -> usize
-    ensures { result ≡ count_by is_end bytes.now }
+    ensures value { result ≡ count_by is_end bytes.now }
+    ensures few { result ≤ length bytes.now }
 {
     bytes.iter().filter(|b| **b == b'\n').count()
 }

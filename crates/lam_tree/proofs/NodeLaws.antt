@@ -49,16 +49,16 @@ then_again read next x rest e = ap (λ r. then_read r next) e
 pub same_read : {X : Type 0} (x y : X) (rest left : Words) → ◌≡◌ {A = Read X} (Some (x, rest)) (Some (y, left)) → (x ≡ y) × (rest ≡ left)
 same_read {X} x y rest left e = let pair : ◌≡◌ {A = X × Words} (x, rest) (y, left) = same_Some (x, rest) (y, left) e in (ap (λ p. p.0) pair, ap (λ p. p.1) pair)
 
-left_takes : {X : Type 0} (left : Words) (o : Option X) (x : X) (rest : Words) → with_left left o ≡ Some (x, rest) → (o ≡ Some x) × (left ≡ rest)
+pub left_takes : {X : Type 0} (left : Words) (o : Option X) (x : X) (rest : Words) → with_left left o ≡ Some (x, rest) → (o ≡ Some x) × (left ≡ rest)
 left_takes left None x rest e = absurd (let n : None ≡ Some (x, rest) = e in cc)
 left_takes left (Some y) x rest e = let same = same_read y x left rest e in (ap (λ z. Some z) same.0, same.1)
 
-first_takes : (ws : Words) (w : List ℕ) (rest : Words) → first_word ws ≡ Some (w, rest) → ws ≡ w ∷ rest
+pub first_takes : (ws : Words) (w : List ℕ) (rest : Words) → first_word ws ≡ Some (w, rest) → ws ≡ w ∷ rest
 first_takes [] w rest e = absurd (let n : None ≡ Some (w, rest) = e in cc)
 first_takes (v ∷ vs) w rest e = let same = same_read v w vs rest e in ap (λ u. u ∷ vs) same.0 ∙ ap (λ t. w ∷ t) same.1
 
 -- a word that is read by itself
-one_takes : {X : Type 0} (f : List ℕ → Option X) (ws : Words) (x : X) (rest : Words)
+pub one_takes : {X : Type 0} (f : List ℕ → Option X) (ws : Words) (x : X) (rest : Words)
     → then_read (first_word ws) (λ w left. with_left left (f w)) ≡ Some (x, rest) → (w : List ℕ) × (ws ≡ w ∷ rest) × (f w ≡ Some x)
 one_takes f ws x rest e =
     let a = then_takes (first_word ws) (λ w left. with_left left (f w)) (x, rest) e in
@@ -67,7 +67,7 @@ one_takes f ws x rest e =
 
 -- ---- tables of words
 
-named_takes : {X : Type 0} (text : X → List ℕ) (table : List (List ℕ × X)) (w : List ℕ) (x : X) → AllByRecursion (λ e. e.0 ≡ text e.1) table
+pub named_takes : {X : Type 0} (text : X → List ℕ) (table : List (List ℕ × X)) (w : List ℕ) (x : X) → AllByRecursion (λ e. e.0 ≡ text e.1) table
     → first_named table w ≡ Some x → w ≡ text x
 named_takes text [] w x spelled e = absurd (let n : None ≡ Some x = e in cc)
 named_takes text (entry ∷ rest) w x spelled e = by (bytes_eq w entry.0) refl e (named_takes text rest w x spelled.1) where
@@ -268,7 +268,7 @@ place_again at rest is =
 -- ---- spots
 
 -- a word is one, or another
-is_text : (w text : List ℕ) → bytes_eq w text ≡ true → w ≡ text
+pub is_text : (w text : List ℕ) → bytes_eq w text ≡ true → w ≡ text
 is_text w text h = grind (arith, bytes_eq-Decides w text)
 
 spot_named_takes : (w : List ℕ) (ws : Words) (at : Spot) (rest : Words) → spot_named w ws ≡ Some (at, rest) → (w ∷ ws ≡ spot_words at ++ rest) × IsSpot at
@@ -481,7 +481,7 @@ word_again word.Admissible rest is = keyed key.Admissible rest word.Admissible r
 
 -- ---- each word is one
 
-number_word : (n : ℕ) → n < 1000 → is_word (decimal n) ≡ true
+pub number_word : (n : ℕ) → n < 1000 → is_word (decimal n) ≡ true
 number_word n small = decimal_word n (omega (arith, small))
 
 place_are_words : (at : Place) (rest : Words) → IsPlace at → AllByRecursion (λ w. is_word w ≡ true) rest → AllByRecursion (λ w. is_word w ≡ true) (place_words at ++ rest)
@@ -524,7 +524,7 @@ seat_are_words items (seat.Item i) rest few is more = (refl, (number_word (i.0 +
 
 -- ---- nodes
 
-words_again_list : (ws : Words) → ws ≢ [] → AllByRecursion (λ w. is_word w ≡ true) ws → words_of (line_of ws) ≡ ws
+pub words_again_list : (ws : Words) → ws ≢ [] → AllByRecursion (λ w. is_word w ≡ true) ws → words_of (line_of ws) ≡ ws
 words_again_list [] some are = absurd (some refl)
 words_again_list (w ∷ ws) some are = words_again w ws are
 
@@ -541,7 +541,7 @@ node_takes items ws node rest e =
     subst (λ (n : Node). (ws ≡ seat_words n.seat ++ (word_words n.word ++ rest)) × IsNode items n) same.0
     (at.0 ∙ ap (λ t. seat_words a.0 ++ t) (says.0 ∙ ap (λ t. word_words b.0 ++ t) same.1), record { seat = at.1; word = says.1 })
 
-whole_takes_all : {X : Type 0} (read : Read X) (x : X) → whole read ≡ Some x → read ≡ Some (x, [])
+pub whole_takes_all : {X : Type 0} (read : Read X) (x : X) → whole read ≡ Some x → read ≡ Some (x, [])
 whole_takes_all None x e = absurd (let n : None ≡ Some x = e in cc)
 whole_takes_all (Some (y, [])) x e = ap (λ z. Some (z, [])) (same_Some y x e)
 whole_takes_all (Some (y, w ∷ rest)) x e = absurd (let n : None ≡ Some x = e in cc)
@@ -567,6 +567,9 @@ some_words items node e = by node.seat e where
   by : (at : Seat) → seat_words at ++ word_words node.word ≡ [] → ⊥
   by (seat.Length n) e = cc
   by (seat.Item i) e = cc
+
+pub node_are_words : (items : ℕ) (node : Node) → items < 256 → IsNode items node → AllByRecursion (λ w. is_word w ≡ true) (seat_words node.seat ++ word_words node.word)
+node_are_words items node few is = seat_are_words items node.seat (word_words node.word) few is.seat (word_are_words node.word is.word)
 
 -- the line of a node is read as that node
 pub line_of_node_again : (items : ℕ) (node : Node) → items < 256 → IsNode items node → node_of items (node_line node) ≡ Some node
