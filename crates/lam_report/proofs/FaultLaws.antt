@@ -1,18 +1,17 @@
 -- Bytes that spell a report, and bytes that stop doing so.
-use Rattle.std.proofs.Common.{◌≡◌, ◌≢◌, ◌∙◌, refl, sym, ap, subst, ℕ, zero, suc, ◌+◌, ◌-◌, ◌<◌, ◌≤◌, List, [], ◌∷◌, ◌++◌, length, take, drop, Option, Some, None, Ok, Err, append_assoc, arith}
+use Rattle.std.proofs.Common.{◌≡◌, ◌≢◌, ◌∙◌, refl, sym, ap, subst, ℕ, ◌+◌, ◌-◌, ◌≤◌, List, [], ◌∷◌, ◌++◌, length, take, Ok, Err, append_assoc, arith}
 use Rattle.std.proofs.lemmas.List.{append-nil, length-append}
 use Rattle.std.proofs.Math.Seq.{take-append_seam}
 use Rattle.lam_stock.specs.declared.item.Item.{Item}
 use Rattle.lam_job.specs.JobData.{JobData}
 use Rattle.lam_tree.specs.declared.report.Report.{Report}
-use Rattle.lam_tree.specs.ReportRanges.{IsReport}
 use Rattle.lam_report.specs.LineText.{text_of, whole_lines, tail_of}
 use Rattle.lam_report.specs.ReportText.{report_lines}
 use Rattle.lam_report.specs.ReportGrammar.{Begins, IsFirstFault, Spells}
-use Rattle.lam_report.specs.inside.Reading.{Lines, Got}
+use Rattle.lam_report.specs.inside.Reading.{Lines}
 use Rattle.lam_report.specs.inside.ReportReading.{report_at}
 use Rattle.lam_report.proofs.CutLaws.{text_again, lines_again}
-use Rattle.lam_report.proofs.Parsing.{Parses, Taken, Fault, ok_pair, ok_is_not_err}
+use Rattle.lam_report.proofs.Parsing.{Parses, ok_pair, ok_is_not_err}
 use Rattle.lam_report.proofs.GrammarLaws.{Given, ReportOf, report_parses}
 
 module _ (stock : List Item) (job : JobData) (given : Given stock job) where

@@ -1,5 +1,5 @@
 -- The lines of a report are read as that report, and the reader stops at the first line with which no report goes on.
-use Rattle.std.proofs.Common.{◌≡◌, ◌≢◌, ◌∙◌, refl, sym, ap, subst, ℕ, zero, suc, ◌+◌, ◌*◌, ◌/◌, ◌%◌, ◌^◌, ◌<◌, ◌≤◌, ◌⊎◌, inl, inr, true, false, List, [], ◌∷◌, ◌++◌, length, All, Option, Some, None, Ok, Err, append_assoc, lit<, lit≤, arith}
+use Rattle.std.proofs.Common.{◌≡◌, ◌∙◌, refl, sym, ap, subst, ℕ, suc, ◌*◌, ◌/◌, ◌%◌, ◌<◌, ◌≤◌, inl, inr, true, false, List, [], ◌∷◌, ◌++◌, length, All, Option, Some, None, Ok, append_assoc, lit<, lit≤, arith}
 use Rattle.std.specs.Prelude.{codes, decimal, map, ⊤}
 use Rattle.std.specs.List.{AllByRecursion}
 use Rattle.std.proofs.Math.Nat.{div-lt_iff_lt-mul, mod-lt, mul-le-mul_right}
@@ -7,27 +7,26 @@ use Rattle.std.proofs.lemmas.List.{append-nil}
 use Rattle.std.proofs.lemmas.List.Elements.{All-from_recursion, All-head, All-tail}
 use Rattle.lam_stock.specs.declared.item.Item.{Item}
 use Rattle.lam_stock.specs.declared.item.ItemNo.{ItemNo}
-use Rattle.lam_stock.specs.Stock.{HaveNames, IsKnown}
+use Rattle.lam_stock.specs.Stock.{HaveNames}
 use Rattle.lam_job.specs.JobData.{JobData}
 use Rattle.lam_job.specs.Schedule.{wall_of}
 use Rattle.lam_tree.specs.declared.limits.TheConstants.{MOST_COST, MOST_NODES, MOST_RATIO}
 use Rattle.lam_tree.specs.declared.node.Node.{Node}
 use Rattle.lam_tree.specs.declared.report.Best.{Best}
-use Rattle.lam_tree.specs.declared.report.Near.{Near}
 use Rattle.lam_tree.specs.declared.report.Answer.{Answer}
 use Rattle.lam_tree.specs.declared.report.Answer.TheVariants as answer
 use Rattle.lam_tree.specs.declared.report.Report.{Report}
 use Rattle.lam_tree.specs.declared.spot.Spot.{Spot}
 use Rattle.lam_tree.specs.Lines.{line_of, node_line, spot_words}
-use Rattle.lam_tree.specs.ReportRanges.{AreListed, AreRatios, IsAnswer, IsBlock, IsNode, IsReport, IsSpot}
+use Rattle.lam_tree.specs.ReportRanges.{AreListed, IsAnswer, IsBlock, IsNode, IsReport, IsSpot}
 use Rattle.lam_tree.specs.inside.LineReading.{first_named, node_of}
-use Rattle.lam_report.specs.ReportText.{answer_line, best_lines, names_line, near_lines, number_line, numbered, panel_line, ratio_line, ratio_text, report_lines, tree_lines}
+use Rattle.lam_report.specs.ReportText.{answer_line, best_lines, names_line, near_lines, number_line, numbered, panel_line, ratio_line, ratio_text, report_lines}
 use Rattle.lam_report.specs.declared.head.Block.{Block}
 use Rattle.lam_report.specs.declared.head.Opening.{Opening}
 use Rattle.lam_report.specs.declared.spelled.AnswerKind.{AnswerKind}
 use Rattle.lam_report.specs.declared.spelled.AnswerKind.TheVariants as kind
 use Rattle.lam_report.specs.inside.HeadReading.{begins_so, is_text, kinds, names_in, near_in, number_in, panel_in, ratio_in}
-use Rattle.lam_report.specs.inside.Reading.{Lines, Got, then_got, line_at, by_next, listed_at}
+use Rattle.lam_report.specs.inside.Reading.{Lines, Got, then_got, line_at, by_next}
 use Rattle.lam_report.specs.inside.ReportReading.{answer_at, behind_block, behind_kind, best_at, block_at, is_cost, no_block, nodes_at, opening_at, panels_at, ratios_at, report_at, report_of, tree_at, with_block}
 use Rattle.lam_report.proofs.Parsing.{Either, ListOf, Nothing, OneLine, Parses, StartsBy, Then, as_parses, either_parses, line_parses, listed_parses, nothing_parses, seq_parses}
 use Rattle.lam_stock.proofs.NumberLaws.{decimal_word}

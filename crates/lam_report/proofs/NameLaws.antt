@@ -1,7 +1,7 @@
 -- The names of plies are read as those plies, and the near line as what it says.
-use Rattle.std.proofs.Common.{◌≡◌, ◌≢◌, ◌∙◌, refl, sym, ap, subst, ℕ, zero, suc, ◌+◌, ◌^◌, ◌<◌, ◌≤◌, nat_le, nat_lt, Bool, true, false, List, [], ◌∷◌, ◌++◌, length, get_or, Option, Some, None, All, IsTrue, lit<, lit≤, arith}
+use Rattle.std.proofs.Common.{◌≡◌, ◌∙◌, refl, sym, ap, subst, ℕ, suc, ◌<◌, ◌≤◌, nat_le, Bool, true, false, List, [], ◌∷◌, ◌++◌, length, get_or, Option, Some, None, IsTrue, lit<, lit≤, arith}
 use Rattle.std.specs.Prelude.{◌&&◌, if◌then◌else◌, codes, decimal, map, slice_get}
-use Rattle.std.specs.List.{AllByRecursion, list_all, position}
+use Rattle.std.specs.List.{AllByRecursion}
 use Rattle.std.proofs.lemmas.Bool.Decides.{nat_tests}
 use Rattle.std.proofs.lemmas.List.Elements.{All-from_recursion, All-head, All-tail, All-get_or}
 use Rattle.std.proofs.lemmas.List.{append-nil}
@@ -27,14 +27,14 @@ use Rattle.lam_tree.specs.declared.spot.Spot.TheVariants as spot
 use Rattle.lam_tree.specs.Lines.{line_of, node_line, ordinal, seat_words, spot_words, word_words}
 use Rattle.lam_tree.specs.ReportRanges.{AreListed, IsNode, IsSpot}
 use Rattle.lam_tree.specs.inside.Cut.{Words}
-use Rattle.lam_tree.specs.inside.LineReading.{Read, then_read, number_at, spot_at, node_of}
+use Rattle.lam_tree.specs.inside.LineReading.{then_read, number_at, spot_at, node_of}
 use Rattle.lam_tree.proofs.WordLaws.{is_word}
 use Rattle.lam_tree.proofs.NodeLaws.{then_takes, then_again, same_read, number_takes, number_again, spot_takes, spot_again, spot_are_words, line_takes, line_of_node_again, node_are_words}
 use Rattle.lam_report.specs.ReportText.{name_of, names_line}
 use Rattle.lam_report.specs.inside.HeadReading.{before, item_of, items_of, listed_of, near_in, names_in, number_of_place, then_listed, words_behind}
 use Rattle.lam_report.proofs.CutLaws.{is_line}
 use Rattle.lam_report.proofs.Parsing.{Spells}
-use Rattle.lam_report.proofs.SpellLaws.{ReadsWords, keyed_spells, behind_takes, behind_again, words_line}
+use Rattle.lam_report.proofs.SpellLaws.{keyed_spells, behind_takes, behind_again, words_line}
 
 -- ---- one name
 

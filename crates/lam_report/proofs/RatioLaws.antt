@@ -1,24 +1,23 @@
 -- The word of a ratio is read as that ratio, and so are the lines of ratios.
-use Rattle.std.proofs.Common.{◌≡◌, ◌∙◌, refl, sym, ap, subst, ℕ, zero, suc, ◌+◌, ◌-◌, ◌*◌, ◌^◌, ◌/◌, ◌%◌, ◌<◌, ◌≤◌, ◌==◌, nat_le, nat_lt, Bool, true, false, List, [], ◌∷◌, ◌++◌, length, take, drop, Option, Some, None, lit<, lit≤, arith}
+use Rattle.std.proofs.Common.{◌≡◌, ◌∙◌, refl, sym, ap, subst, ℕ, ◌+◌, ◌-◌, ◌*◌, ◌^◌, ◌/◌, ◌%◌, ◌<◌, ◌≤◌, ◌==◌, nat_le, nat_lt, Bool, true, false, List, [], ◌∷◌, ◌++◌, length, take, drop, Option, Some, None, lit≤, arith}
 use Rattle.std.specs.Prelude.{◌&&◌, if◌then◌else◌, codes, decimal, slice_index}
-use Rattle.std.specs.List.{AllByRecursion, list_all}
 use Rattle.std.proofs.lemmas.Bool.Decides.{nat_tests}
-use Rattle.std.proofs.lemmas.List.{append-nil, length-append, take-append-drop}
+use Rattle.std.proofs.lemmas.List.{length-append, take-append-drop}
 use Rattle.std.proofs.lemmas.Option.{same_Some}
 use Rattle.std.proofs.Math.Seq.{take-append_seam, drop-append_seam}
 use Rattle.lam_stock.specs.Field.{is_digit, whole_of}
 use Rattle.lam_stock.proofs.NumberLaws.{whole_takes, whole_again, decimal_word}
 use Rattle.lam_stock.proofs.Truth.{both-true}
-use Rattle.lam_tree.specs.Lines.{line_of, ordinal}
+use Rattle.lam_tree.specs.Lines.{ordinal}
 use Rattle.lam_tree.specs.inside.Cut.{Words}
-use Rattle.lam_tree.specs.inside.LineReading.{Read, then_read, first_word, with_left, number_at}
+use Rattle.lam_tree.specs.inside.LineReading.{then_read, with_left, number_at}
 use Rattle.lam_tree.specs.declared.limits.TheConstants.{MOST_RATIO}
 use Rattle.lam_tree.proofs.WordLaws.{is_word}
-use Rattle.lam_tree.proofs.NodeLaws.{then_takes, then_again, same_read, one_takes, number_takes, number_again, number_word}
+use Rattle.lam_tree.proofs.NodeLaws.{then_takes, then_again, one_takes, number_takes, number_again, number_word}
 use Rattle.lam_report.specs.ReportText.{ratio_line, ratio_text, panel_line}
 use Rattle.lam_report.specs.inside.HeadReading.{thousandths, small_ratio, ratio_of, ratio_at, ratio_in, panel_in}
 use Rattle.lam_report.proofs.Parsing.{Spells}
-use Rattle.lam_report.proofs.SpellLaws.{ReadsWords, keyed_spells}
+use Rattle.lam_report.proofs.SpellLaws.{keyed_spells}
 
 -- ---- the digits of a ratio
 

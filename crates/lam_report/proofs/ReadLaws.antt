@@ -1,6 +1,6 @@
 -- What a reader of a report answers, from what its steps answer.
-use Rattle.std.proofs.Common.{◌≡◌, ◌≢◌, ◌∙◌, refl, sym, ap, subst, ℕ, zero, suc, ◌+◌, ◌-◌, ◌<◌, ◌≤◌, List, [], ◌∷◌, ◌++◌, length, take, drop, Bool, true, false, Ok, Err, append_assoc, arith}
-use Rattle.std.specs.Prelude.{codes, if◌then◌else◌, map}
+use Rattle.std.proofs.Common.{◌≡◌, ◌≢◌, ◌∙◌, refl, sym, ap, ℕ, suc, ◌+◌, ◌-◌, ◌<◌, ◌≤◌, List, [], ◌∷◌, ◌++◌, length, take, drop, Bool, true, false, Ok, Err, append_assoc, arith}
+use Rattle.std.specs.Prelude.{codes, map}
 use Rattle.std.proofs.lemmas.List.{append-nil, length-append, length-map}
 use Rattle.std.proofs.Math.Seq.{take-append_seam, drop-append_seam}
 use Rattle.lam_stock.specs.declared.item.Item.{Item}
@@ -11,7 +11,6 @@ use Rattle.lam_job.specs.Ranges.{IsJob}
 use Rattle.lam_job.specs.Schedule.{wall_of}
 use Rattle.lam_tree.specs.declared.node.Node.{Node}
 use Rattle.lam_tree.specs.declared.report.Report.{Report}
-use Rattle.lam_tree.specs.declared.report.Head.{Head}
 use Rattle.lam_tree.specs.Lines.{node_line}
 use Rattle.lam_tree.specs.ReportRanges.{AreListed}
 use Rattle.lam_report.specs.LineText.{text_of, whole_lines, tail_of}
@@ -19,12 +18,12 @@ use Rattle.lam_report.specs.ReportText.{report_lines}
 use Rattle.lam_report.specs.ReportGrammar.{IsFirstFault, Spells}
 use Rattle.lam_report.specs.declared.head.Opening.{Opening}
 use Rattle.lam_report.specs.inside.Left.{Left, left_of, bytes_of}
-use Rattle.lam_report.specs.inside.Reading.{Lines, Got, then_got}
+use Rattle.lam_report.specs.inside.Reading.{Lines, then_got}
 use Rattle.lam_report.specs.inside.ReportReading.{opening_at, report_at, report_of, tree_at}
 use Rattle.lam_report.proofs.CutLaws.{lines_again, text_again, text_of-append}
-use Rattle.lam_report.proofs.Parsing.{Parses, Taken, Fault, got_again}
-use Rattle.lam_report.proofs.GrammarLaws.{Given, OpeningOf, TreeOf, opening_parses, report_parses, tree_parses}
-use Rattle.lam_report.proofs.FaultLaws.{one_report, read_spelled, refused_fault, undone_fault}
+use Rattle.lam_report.proofs.Parsing.{got_again}
+use Rattle.lam_report.proofs.GrammarLaws.{Given, opening_parses, report_parses, tree_parses}
+use Rattle.lam_report.proofs.FaultLaws.{read_spelled, refused_fault, undone_fault}
 use Rattle.lam_report.proofs.WriteLaws.{wall-length}
 
 -- ---- what is known of a job and a catalogue

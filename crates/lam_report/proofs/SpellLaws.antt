@@ -1,26 +1,23 @@
 -- Each line of a report is read as what it says, and no other line is.
-use Rattle.std.proofs.Common.{◌≡◌, ◌≢◌, ◌∙◌, refl, sym, ap, subst, ℕ, zero, suc, ◌+◌, ◌-◌, ◌*◌, ◌^◌, ◌/◌, ◌%◌, ◌<◌, ◌≤◌, ◌==◌, nat_le, nat_lt, Bool, true, false, not, List, [], ◌∷◌, ◌++◌, length, take, drop, get_or, Option, Some, None, All, append_assoc, lit<, lit≤, arith}
-use Rattle.std.specs.Prelude.{◌&&◌, if◌then◌else◌, codes, decimal, map, slice_get, slice_index, ⊤}
+use Rattle.std.proofs.Common.{◌≡◌, ◌∙◌, refl, sym, ap, ℕ, ◌^◌, ◌<◌, ◌≤◌, ◌==◌, nat_lt, Bool, true, false, not, List, [], ◌∷◌, ◌++◌, Option, Some, None, arith}
+use Rattle.std.specs.Prelude.{if◌then◌else◌, codes, decimal, ⊤}
 use Rattle.std.specs.List.{AllByRecursion, list_all}
 use Rattle.std.specs.Str.{bytes_eq}
 use Rattle.std.proofs.lemmas.Bool.Decides.{nat_tests}
-use Rattle.std.proofs.lemmas.List.{append-nil, length-append, take-append-drop}
+use Rattle.std.proofs.lemmas.List.{append-nil}
 use Rattle.std.proofs.lemmas.Option.{same_Some}
 use Rattle.std.proofs.lemmas.Slice.Eq.{bytes_eq-Decides}
-use Rattle.std.proofs.Math.Seq.{take-append_seam, drop-append_seam}
-use Rattle.lam_stock.specs.Field.{is_digit, whole_of}
-use Rattle.lam_stock.proofs.NumberLaws.{whole_takes, whole_again, decimal_word}
+use Rattle.lam_stock.proofs.NumberLaws.{decimal_word}
 use Rattle.lam_stock.proofs.Truth.{both-true}
-use Rattle.lam_tree.specs.Lines.{line_of, ordinal, spaced}
+use Rattle.lam_tree.specs.Lines.{line_of, spaced}
 use Rattle.lam_tree.specs.inside.Cut.{Words, words_of}
-use Rattle.lam_tree.specs.inside.LineReading.{Read, then_read, first_word, first_named, with_left, number_at, whole}
-use Rattle.lam_tree.specs.declared.limits.TheConstants.{MOST_RATIO}
+use Rattle.lam_tree.specs.inside.LineReading.{Read, then_read, first_word, first_named, number_at, whole}
 use Rattle.lam_tree.proofs.WordLaws.{is_word, line_again, words_again}
-use Rattle.lam_tree.proofs.NodeLaws.{then_takes, then_again, same_read, left_takes, first_takes, one_takes, named_takes, whole_takes_all, is_text as same_text, number_takes, number_again, number_word}
-use Rattle.lam_report.specs.ReportText.{number_line, ratio_line, ratio_text, panel_line}
+use Rattle.lam_tree.proofs.NodeLaws.{then_takes, first_takes, named_takes, whole_takes_all, is_text as same_text, number_takes, number_again}
+use Rattle.lam_report.specs.ReportText.{number_line}
 use Rattle.lam_report.specs.declared.spelled.AnswerKind.{AnswerKind}
 use Rattle.lam_report.specs.declared.spelled.AnswerKind.TheVariants as kind
-use Rattle.lam_report.specs.inside.HeadReading.{is_text, kinds, words_behind, then_all, number_in, thousandths, small_ratio, ratio_of, ratio_at, ratio_in, panel_in}
+use Rattle.lam_report.specs.inside.HeadReading.{is_text, kinds, words_behind, then_all, number_in}
 use Rattle.lam_report.proofs.CutLaws.{is_line}
 use Rattle.lam_report.proofs.Parsing.{Spells}
 

@@ -1,5 +1,5 @@
 -- How the lines of a report are read, each by itself.
-use Rattle.std.specs.Prelude.{◌≡◌, ◌==◌, ℕ, zero, suc, ◌+◌, ◌-◌, ◌*◌, nat_le, Bool, true, false, ◌&&◌, if◌then◌else◌, List, [], ◌∷◌, length, take, drop, slice_index, Option, Some, None, codes}
+use Rattle.std.specs.Prelude.{◌==◌, ℕ, ◌+◌, ◌-◌, ◌*◌, nat_le, Bool, true, false, ◌&&◌, if◌then◌else◌, List, [], ◌∷◌, length, take, drop, slice_index, Option, Some, None, codes}
 use Rattle.std.specs.Str.{bytes_eq}
 use Rattle.lam_stock.specs.Field.{is_digit, whole_of}
 use Rattle.lam_stock.specs.Likeness.{place_of}
@@ -9,7 +9,7 @@ use Rattle.lam_job.specs.declared.limits.TheConstants.{MOST_PLIES}
 use Rattle.lam_tree.specs.declared.limits.TheConstants.{MOST_COST, MOST_RATIO}
 use Rattle.lam_tree.specs.declared.spot.Spot.{Spot}
 use Rattle.lam_tree.specs.inside.Cut.{Words, words_of}
-use Rattle.lam_tree.specs.inside.LineReading.{Read, then_read, first_word, first_named, with_left, number_at, spot_at, whole}
+use Rattle.lam_tree.specs.inside.LineReading.{Read, then_read, first_word, with_left, number_at, spot_at, whole}
 use Rattle.lam_report.specs.declared.spelled.AnswerKind.{AnswerKind}
 use Rattle.lam_report.specs.declared.spelled.AnswerKind.TheVariants as kind
 

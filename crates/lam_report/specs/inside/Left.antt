@@ -1,5 +1,5 @@
 -- What is left of bytes that are read by lines.
-use Rattle.std.specs.Prelude.{◌≡◌, ℕ, List, [], ◌∷◌, ◌++◌, Option, Some, None, Result, Ok, Err, ⊤}
+use Rattle.std.specs.Prelude.{◌≡◌, ℕ, List, [], ◌∷◌, ◌++◌, Option, Some, None}
 use Rattle.std.specs.Borrow.{Bor}
 use Rattle.lam_report.specs.LineText.{text_of, whole_lines, tail_of}
 use Rattle.lam_report.specs.inside.Reading.{Lines}

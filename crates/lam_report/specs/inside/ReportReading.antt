@@ -1,7 +1,6 @@
 -- How the lines of a report are read, one after the other.
-use Rattle.std.specs.Prelude.{ℕ, zero, suc, ◌*◌, ◌/◌, ◌%◌, Bool, List, [], ◌∷◌, length, Option, Some, None, Result, Ok, Err, codes}
+use Rattle.std.specs.Prelude.{ℕ, ◌*◌, ◌/◌, ◌%◌, Bool, List, [], length, Some, None, Ok, codes}
 use Rattle.lam_stock.specs.declared.item.Item.{Item}
-use Rattle.lam_stock.specs.declared.item.ItemNo.{ItemNo}
 use Rattle.lam_job.specs.JobData.{JobData}
 use Rattle.lam_job.specs.Schedule.{wall_of}
 use Rattle.lam_tree.specs.declared.limits.TheConstants.{MOST_COST, MOST_NODES}

@@ -1,4 +1,4 @@
-use Rattle.std.proofs.Common.{◌≡◌, ◌∙◌, ◌*◌, refl, sym, ap, subst, length, ℕ, List, [], ◌∷◌, ◌++◌}
+use Rattle.std.proofs.Common.{◌∙◌, ◌*◌, refl, sym, ap, subst, length, ℕ, List, [], ◌∷◌, ◌++◌}
 use Rattle.std.specs.Prelude.{◌/◌, ◌%◌, codes}
 use Rattle.std.specs.Option.{option_map}
 use Rattle.lam_job.specs.JobData.{JobData}

@@ -1,9 +1,9 @@
-use Rattle.std.proofs.Common.{◌≡◌, ◌∙◌, ◌+◌, ◌++◌, ap, subst, length, ℕ, List, Option, Ok, Err, [], ◌∷◌}
+use Rattle.std.proofs.Common.{◌≡◌, ◌∙◌, ◌++◌, ap, subst, length, ℕ, List, Option, Ok, Err, [], ◌∷◌}
 use Rattle.lam_tree.specs.declared.node.Node.{Node}
 use Rattle.lam_tree.specs.inside.LineReading.{node_of}
 use Rattle.lam_report.specs.inside.Reading.{listed_at}
 use Rattle.lam_report.specs.inside.ReportReading.{nodes_at}
-use Rattle.lam_report.proofs.ListLoops.{begins, goes_on, stops, is_whole}
+use Rattle.lam_report.proofs.ListLoops.{goes_on, stops, is_whole}
 use Rattle.lam_report.proofs.read.passes_nodes.Goals as goal
 
 pub returns-in_default : goal.returns-in_default

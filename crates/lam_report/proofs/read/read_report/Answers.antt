@@ -1,5 +1,4 @@
-use Rattle.std.proofs.Common.{◌≡◌, ◌∙◌, ◌<◌, ◌≤◌, ap, subst, Result, Err, Ok}
-use Rattle.lam_job.specs.JobData.{JobData}
+use Rattle.std.proofs.Common.{◌≡◌, ◌∙◌, ◌<◌, ◌≤◌, ap, subst, Result, Err}
 use Rattle.lam_job.specs.Ranges.{IsJob}
 use Rattle.lam_tree.specs.declared.report.Report.{Report}
 use Rattle.lam_report.specs.declared.head.ReadError.{ReadError}

@@ -1,5 +1,4 @@
-use Rattle.std.proofs.Common.{◌≡◌, ◌∙◌, ◌+◌, ◌-◌, ◌<◌, ◌≤◌, ap, refl, subst, sym, length, drop, take, Result, Err, Ok}
-use Rattle.lam_job.specs.JobData.{JobData}
+use Rattle.std.proofs.Common.{◌≡◌, ◌∙◌, ◌+◌, ◌-◌, ◌<◌, ◌≤◌, ap, refl, subst, sym, length, Result, Err}
 use Rattle.lam_job.specs.Ranges.{IsJob}
 use Rattle.lam_report.specs.LineText.{text_of, whole_lines}
 use Rattle.lam_report.specs.declared.head.Opening.{Opening}

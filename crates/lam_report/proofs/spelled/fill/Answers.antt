@@ -1,4 +1,4 @@
-use Rattle.std.proofs.Common.{◌≡◌, ◌∙◌, ◌++◌, ◌∷◌, [], sym, ap, subst, List, length, length-append, arith}
+use Rattle.std.proofs.Common.{◌∙◌, ◌∷◌, [], sym, ap, subst, List, length, length-append, arith}
 use Rattle.lam_stock.specs.declared.item.ItemNo.{ItemNo}
 use Rattle.lam_report.proofs.ListLoops.{Filled, name_found, fill_begins, fill_goes_on, fill_fails, fill_ends, fill_none, fill_many, no_plies, no_word, some_word}
 use Rattle.lam_report.proofs.spelled.fill.Goals as goal
