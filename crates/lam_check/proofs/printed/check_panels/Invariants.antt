@@ -1,0 +1,15 @@
+use Rattle.std.proofs.Common.{◌≡◌, ◌+◌, List, Option, drop}
+use Rattle.lam_stock.specs.declared.item.Item.{Item}
+use Rattle.lam_stock.specs.declared.item.ItemNo.{ItemNo}
+use Rattle.lam_job.specs.JobData.{JobData}
+use Rattle.lam_judge.specs.inside.Ratios.{printed}
+use Rattle.lam_tree.specs.Findings.{Fault}
+use Rattle.lam_tree.specs.Checks.{PanelChecks}
+use Rattle.lam_check.specs.inside.Computed.{computed}
+use Rattle.lam_check.proofs.printed.check_panels.Given as goal
+
+abbrev pub invariant-loop-i : goal.invariant-loop-i
+invariant-loop-i l =
+    (stock : List Item) (job : JobData) (listed : List ItemNo) → l.room ≡ printed stock job listed
+    → (found : Option Fault) → PanelChecks stock job (computed stock job) listed (l.first + l.i) l.i (drop l.i l.panels) found
+    → PanelChecks stock job (computed stock job) listed l.first 0 l.panels found
