@@ -32,3 +32,6 @@ pub use lam_tsai::{FaceSide, Place, Side};
 pub use printing::{ratios, ratios_by};
 pub use room::Room;
 pub use tables::Tables;
+
+#[cfg(test)]
+mod tests;
