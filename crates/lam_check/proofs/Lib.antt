@@ -16,8 +16,6 @@ pub mod Rules
 pub mod Options
 -- costs of schedules, ply by ply
 pub mod CostSums
--- what the word of a judged completion says is so
-pub mod Judged
 -- printed ratios, line by line
 pub mod Printings
 -- what is found of the best schedule, as the promise of a report says it

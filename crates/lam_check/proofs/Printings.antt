@@ -16,7 +16,7 @@ use Rattle.lam_judge.specs.inside.Ratios.{printed}
 use Rattle.lam_tree.specs.Findings.{Fault, WrongRatio}
 use Rattle.lam_tree.specs.Checks.{RatioChecks, PanelChecks}
 use Rattle.lam_tree.specs.Promise.{HasRatios, HasPanels}
-use Rattle.lam_check.specs.inside.Computed.{computed}
+use Rattle.lam_answers.specs.inside.Computed.{computed}
 
 module _ (stock : List Item) (job : JobData) (listed : List ItemNo) (room : Printed) (is : room ≡ printed stock job listed) where
   -- ---- ratios, of a wall of so many plies

@@ -1,4 +1,3 @@
-pub mod Computed  -- what is computed of schedules
 pub mod Sets  -- sets of items
 pub mod Basis  -- what a report is checked against
 pub mod Machine  -- where the machine is, and what it is still to read

@@ -9,7 +9,7 @@ ghost use Rattle.lam_judge.specs.inside.Tables.{AreTablesOf};
 ghost use Rattle.lam_tree.specs.Checks.{BestChecks, NearChecks};
 ghost use Rattle.lam_tree.specs.Promise.{HasPanels, HasRatios};
 ghost use Rattle.lam_tree.specs.ReportRanges.{AreListed, IsBlock};
-ghost use Rattle.lam_check.specs.inside.Computed.{computed};
+ghost use Rattle.lam_answers.specs.inside.Computed.{computed};
 ghost use Rattle.lam_check.specs.Faults.{fault_is};
 ghost use Rattle.lam_check.specs.inside.Printing.{IfNamed, IsAsPrinted};
 

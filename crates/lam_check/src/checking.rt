@@ -7,11 +7,11 @@ ghost use Rattle.lam_tree.specs.Promise.{PromiseBy};
 ghost use Rattle.lam_tree.specs.Words.{IsTrueBy};
 ghost use Rattle.lam_tree.specs.Reading.{read};
 ghost use Rattle.lam_tree.specs.ReportRanges.{IsReport};
-ghost use Rattle.lam_check.specs.inside.Computed.{computed};
+ghost use Rattle.lam_answers.specs.inside.Computed.{computed};
 ghost use Rattle.lam_check.specs.Faults.{fault_is};
 ghost use Rattle.lam_check.specs.Headed.{with_nodes};
 ghost use Rattle.lam_check.specs.Says.{Says};
-ghost use Rattle.lam_check.specs.Straddling.{Straddles};
+ghost use Rattle.lam_answers.specs.Straddling.{Straddles};
 ghost use Rattle.lam_check.specs.inside.Claimed.{with_tree};
 ghost use Rattle.lam_check.specs.inside.Printing.{IsAsPrinted};
 

@@ -11,8 +11,8 @@ ghost use Rattle.lam_tree.specs.Closings.{ClosesByRule, IsSound, Reaches};
 ghost use Rattle.lam_tree.specs.ForceBalance.{IsShort, net_cost as net_spec};
 ghost use Rattle.lam_tree.specs.Words.{IsTrueBy, NoneIsCheaper, NoneMayBeBuilt};
 ghost use Rattle.lam_bounds.specs.inside.Computed.{capacity_value};
-ghost use Rattle.lam_check.specs.inside.Computed.{computed};
-ghost use Rattle.lam_check.specs.Straddling.{Straddles};
+ghost use Rattle.lam_answers.specs.inside.Computed.{computed};
+ghost use Rattle.lam_answers.specs.Straddling.{Straddles};
 
 use crate::costs::reaches;
 use crate::judging::is_judged_full;

@@ -10,30 +10,16 @@ ghost use Rattle.lam_judge.specs.Judgements.{IsSchedule};
 ghost use Rattle.lam_rules.specs.Conditions.{IsPartial};
 ghost use Rattle.lam_tree.specs.Words.{IsTrueBy};
 ghost use Rattle.lam_tree.specs.Checks.{IsJudged};
-ghost use Rattle.lam_check.specs.inside.Computed.{computed, word_of as word_spec};
-ghost use Rattle.lam_check.specs.Straddling.{Straddles};
+ghost use Rattle.lam_answers.specs.inside.Computed.{computed, word_of as word_spec};
+ghost use Rattle.lam_answers.specs.Straddling.{Straddles};
 
 use crate::splitting::is_full;
+use lam_answers::word_of;
 use lam_job::Job;
 use lam_judge::{Judgement, Tables, judge_by};
 use lam_rules::{Partial, complete};
 use lam_stock::{Stack, Stock};
-use lam_tree::{Spot, Word};
-
-/// The word of a leaf whose only schedule is judged so.
-pub fn word_of(judgement: Judgement) -> Word
-    ensures { result ≡ word_spec judgement }
-{
-    match judgement {
-        Judgement::Admissible => Word::Admissible,
-        Judgement::Broken(rule) => Word::Rule(rule),
-        Judgement::OutOfRange(case) => Word::Range(case),
-        Judgement::Fails(at) => Word::Fails(at),
-        Judgement::Buckles(panel) => Word::Buckles(panel),
-        Judgement::StraddlesPly(at) => Word::Straddles(Spot::Ply(at)),
-        Judgement::StraddlesPanel(panel) => Word::Straddles(Spot::Panel(panel)),
-    }
-}
+use lam_tree::Word;
 
 /// Tells whether a schedule is not too long and judged so.
 pub fn is_judged(job: &Job, stock: &Stock, tables: &Tables, listed: &Stack, word: Word) -> bool

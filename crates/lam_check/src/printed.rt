@@ -7,7 +7,7 @@ ghost use Rattle.lam_job.specs.JobData.{JobData};
 ghost use Rattle.lam_judge.specs.Printed.{ratio_of};
 ghost use Rattle.lam_judge.specs.inside.Ratios.{printed};
 ghost use Rattle.lam_tree.specs.Checks.{PanelChecks, RatioChecks};
-ghost use Rattle.lam_check.specs.inside.Computed.{computed};
+ghost use Rattle.lam_answers.specs.inside.Computed.{computed};
 ghost use Rattle.lam_check.specs.Faults.{fault_is};
 
 use crate::fault::{CheckCause, CheckFault};

@@ -12,7 +12,7 @@ ghost use Rattle.lam_tree.specs.TriedWeights.{tried_weights};
 ghost use Rattle.lam_bounds.specs.inside.Computed.{capacity_value};
 ghost use Rattle.lam_bounds.specs.inside.RunningSums.{AreSumsOf};
 ghost use Rattle.lam_bounds.specs.inside.Tables.{AreBoundsOf};
-ghost use Rattle.lam_check.specs.inside.Computed.{computed};
+ghost use Rattle.lam_answers.specs.inside.Computed.{computed};
 
 use crate::costs::is_below;
 use lam_bounds::{Bounds, Fixed, cost_floor_at, first_dear, first_short};

@@ -2,7 +2,7 @@
 use Rattle.std.specs.Prelude.{List}
 use Rattle.lam_stock.specs.declared.item.Item.{Item}
 use Rattle.lam_job.specs.JobData.{JobData}
-use Rattle.lam_check.specs.inside.Computed.{computed}
+use Rattle.lam_answers.specs.inside.Computed.{computed}
 use Rattle.lam_check.specs.inside.Basis.{Basis}
 
 -- a catalogue and a job

@@ -15,7 +15,7 @@ use Rattle.lam_check.specs.declared.fault.CheckCause.{CheckCause}
 use Rattle.lam_check.specs.declared.state.State.{State}
 use Rattle.lam_check.specs.declared.state.Summary.{Summary}
 use Rattle.lam_check.specs.Faults.{cause_is}
-use Rattle.lam_check.specs.Straddling.{Straddles}
+use Rattle.lam_answers.specs.Straddling.{Straddles}
 use Rattle.lam_check.specs.inside.Basis.{Basis}
 use Rattle.lam_check.specs.inside.Machine.{left, IsSettled}
 

@@ -1,7 +1,7 @@
 use Rattle.std.proofs.Common.{refl, sym, ◌∙◌, ap, subst, ◌+◌, ◌*◌, length, None}
 use Rattle.lam_tree.specs.Checks.{PanelChecks}
 use Rattle.lam_tree.specs.Promise.{HasRatios, HasPanels}
-use Rattle.lam_check.specs.inside.Computed.{computed}
+use Rattle.lam_answers.specs.inside.Computed.{computed}
 use Rattle.lam_check.specs.inside.Printing.{IsAsPrinted}
 use Rattle.lam_check.proofs.LineSteps.{on_ok}
 use Rattle.lam_check.proofs.Printings.{have-ratios, have-panels}

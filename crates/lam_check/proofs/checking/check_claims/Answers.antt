@@ -1,8 +1,8 @@
 use Rattle.std.proofs.Common.{◌≡◌, true, false}
 use Rattle.lam_tree.proofs.Promised.{promised_by}
-use Rattle.lam_check.specs.inside.Computed.{computed}
+use Rattle.lam_answers.specs.inside.Computed.{computed}
 use Rattle.lam_check.specs.Faults.{fault_is}
-use Rattle.lam_check.specs.Straddling.{Straddles}
+use Rattle.lam_answers.specs.Straddling.{Straddles}
 use Rattle.lam_check.specs.inside.Claimed.{with_tree}
 use Rattle.lam_check.proofs.Excludes.{one_or_other}
 use Rattle.lam_check.proofs.Promises.{as_printed}

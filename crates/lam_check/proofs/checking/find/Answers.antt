@@ -4,7 +4,7 @@ use Rattle.lam_tree.specs.Checks.{TreeChecks}
 use Rattle.lam_check.specs.Faults.{fault_is}
 use Rattle.lam_check.specs.inside.Basis.{Basis}
 use Rattle.lam_check.specs.inside.Claimed.{with_tree}
-use Rattle.lam_check.specs.inside.Computed.{computed}
+use Rattle.lam_answers.specs.inside.Computed.{computed}
 use Rattle.lam_check.specs.inside.Steps.{IsTrueLeaf, Sums}
 use Rattle.lam_check.proofs.Gathering.{in_tree, in_budget, in_answer, in_none}
 use Rattle.lam_check.proofs.checking.find.Goals as goal

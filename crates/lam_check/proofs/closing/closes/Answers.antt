@@ -1,8 +1,8 @@
 use Rattle.std.proofs.Common.{◌≡◌, sym, subst, false, true, slice_get}
 use Rattle.lam_tree.specs.Closings.{IsSound, MayBox}
 use Rattle.lam_tree.specs.Words.{IsTrueBy}
-use Rattle.lam_check.specs.inside.Computed.{computed}
-use Rattle.lam_check.specs.Straddling.{Straddles}
+use Rattle.lam_answers.specs.inside.Computed.{computed}
+use Rattle.lam_answers.specs.Straddling.{Straddles}
 use Rattle.lam_check.proofs.Options.{no_place}
 use Rattle.lam_check.proofs.closing.closes.Goals as goal
 

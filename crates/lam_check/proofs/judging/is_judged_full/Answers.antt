@@ -1,8 +1,8 @@
 use Rattle.std.proofs.Common.{sym, ap, subst, ◌∙◌}
 use Rattle.lam_judge.specs.Judgements.{IsSaid}
 use Rattle.lam_judge.specs.inside.Judged.{judged}
-use Rattle.lam_check.specs.inside.Computed.{computed, word_of}
-use Rattle.lam_check.proofs.Judged.{judged_so}
+use Rattle.lam_answers.specs.inside.Computed.{computed, word_of}
+use Rattle.lam_answers.proofs.Judged.{judged_so}
 use Rattle.lam_check.proofs.judging.is_judged_full.Goals as goal
 
 pub returns-clause-so : goal.returns-clause-so

@@ -5,7 +5,7 @@ use Rattle.lam_job.specs.JobData.{JobData}
 use Rattle.lam_judge.specs.inside.Ratios.{printed}
 use Rattle.lam_tree.specs.Findings.{Fault}
 use Rattle.lam_tree.specs.Checks.{RatioChecks}
-use Rattle.lam_check.specs.inside.Computed.{computed}
+use Rattle.lam_answers.specs.inside.Computed.{computed}
 use Rattle.lam_check.proofs.printed.check_ratios.Given as goal
 
 abbrev pub invariant-loop-i : goal.invariant-loop-i

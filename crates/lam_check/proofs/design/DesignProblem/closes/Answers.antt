@@ -1,6 +1,6 @@
 use Rattle.std.proofs.Common.{subst, ℕ, Option, IsTrue}
 use Rattle.lam_tree.specs.Closings.{IsSound}
-use Rattle.lam_check.specs.inside.Computed.{computed}
+use Rattle.lam_answers.specs.inside.Computed.{computed}
 use Rattle.lam_check.specs.inside.Given.{Given}
 use Rattle.lam_check.proofs.design.DesignProblem.closes.Goals as goal
 

@@ -16,8 +16,8 @@ use Rattle.lam_judge.specs.Judgements as said
 use Rattle.lam_tree.specs.declared.node.Word.{Word}
 use Rattle.lam_tree.specs.Words as tree
 use Rattle.lam_tree.specs.Tests.{Tests}
-use Rattle.lam_check.specs.inside.Computed.{word_of}
-use Rattle.lam_check.specs.Straddling.{Straddles}
+use Rattle.lam_answers.specs.inside.Computed.{word_of}
+use Rattle.lam_answers.specs.Straddling.{Straddles}
 
 same_face : (face : FaceSide) → said.face_of face ≡ tree.face_of face
 same_face Inner = refl
