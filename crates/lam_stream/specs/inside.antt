@@ -1,0 +1,1 @@
+pub mod TreeNodes  -- the nodes whose lines bytes begin with
