@@ -1,5 +1,5 @@
 -- From the steps of an analysis to its ending.
-use Rattle.std.proofs.Common.{◌≡◌, ◌⊎◌, inl, inr, ℕ, List, Option, Some, Result, Ok, Err, refl, ap, subst, sym}
+use Rattle.std.proofs.Common.{◌≡◌, ◌⊎◌, inl, inr, ℕ, List, Some, Ok, Err, refl, ap, subst, sym}
 use Rattle.std.specs.Prelude.{IsErrOf}
 use Rattle.lam_outside.specs.declared.writing.WriteFault.{WriteFault}
 use Rattle.lam_outside.specs.declared.writing.WriteFault.TheVariants.{Failed, TookNone}
@@ -34,7 +34,7 @@ use Rattle.laminate.proofs.ModeSteps.{refusal_due, said_status, unread_due}
 said_refuses : (files : FilesSeen) (o : OrderWords) (f : Fault) → Say files (files_of o) (Err f) → Refuses files o f
 said_refuses files (design job catalogue options) f said = said
 said_refuses files (analyse job catalogue word) f said = inl said
-said_refuses files (check job catalogue report) f said = said
+said_refuses files (check job catalogue report) f said = inl said
 said_refuses files (sample number options) f (_, _, none, _, _) = absurd none
 
 pub files_stop : {K : Type 0} (out : Outside K) (o : OrderWords) (why : Stop) → out.whole_after ≡ out.whole

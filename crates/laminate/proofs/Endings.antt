@@ -1,7 +1,6 @@
 -- How a run ends, by the table of statuses: from a text that is due to the ending, and what follows from the ending.
 use Rattle.std.proofs.Common.{◌≡◌, ◌⊎◌, inl, inr, ℕ, List, Option, Some, None, Result, Ok, Err, refl, sym, ap, subst, ◌∙◌, le_trans}
 use Rattle.std.specs.Prelude.{IfOk, option_and_then}
-use mathlib.Core.Logic.{⊎_elim}
 use Rattle.lam_outside.specs.Counts.{Rose}
 use Rattle.lam_words.specs.declared.order.Order.{Order}
 use Rattle.lam_words.specs.declared.order.WordsError.{WordsError}
@@ -10,16 +9,15 @@ use Rattle.lam_words.specs.Reading.{OrderWords}
 use Rattle.lam_words.specs.Spelled.{spelled}
 use Rattle.laminate.specs.declared.fault.Fault.{Fault}
 use Rattle.laminate.specs.declared.fault.Fault.TheVariants as fault
-use Rattle.laminate.specs.declared.fault.Source.{Source}
 use Rattle.laminate.specs.declared.status.Status.{Status}
 use Rattle.laminate.specs.declared.status.Status.TheVariants as status
 use Rattle.laminate.specs.Answers.{Answers, MayEnd, Refuses}
-use Rattle.laminate.specs.Ending.{Due, Ending, EndsAs, MustAnswer, MustRefuse}
+use Rattle.laminate.specs.Ending.{Due, Ending, EndsAs, MustAccept, MustAnswer, MustRefuse}
 use Rattle.laminate.specs.Faults.{fault_line, fault_status}
 use Rattle.laminate.specs.Orders.{Unread, files_of, if_built}
 use Rattle.laminate.specs.Outside.{Contents, FilesSeen, Outside, SinkFailed, SinkSeen, SinkStays, Wrote, files_seen, outside, sink_seen}
 use Rattle.laminate.specs.inside.Steps.{IsRead, WritesLine, WritesText}
-use Rattle.laminate.proofs.OrderFacts.{may_end, unanswered}
+use Rattle.laminate.proofs.OrderFacts.{accepted_ends, accepted_is_valid, may_end, unanswered}
 
 -- ---- what was written of a text that is due
 
@@ -152,3 +150,24 @@ completes out order status.WriteFault o h some m = absurd (never_failed out m.fa
 completes out order status.Memory o h some m = inr refl
 completes out order status.ReportRefused o (text, (p, is, answers), _) some m =
     answered_ends out order status.ReportRefused o p text some is (may_end out.files p status.ReportRefused text answers)
+
+-- ---- reports that are accepted
+
+answered_done : {K : Type 0} (out : Outside K) (order : Option OrderWords) (o p : OrderWords) (ended : Status) (text : List ℕ)
+    → MustAccept out o → order ≡ Some o → order ≡ Some p → Answers out.files p ended text → EndsAs status.Done ended
+answered_done out order o p ended text m some is answers =
+    inl (accepted_ends out.files o ended text m.told m.accepted (as_asked (λ (x : OrderWords). Answers out.files x ended text) order p o is some answers))
+
+pub accepts : {K : Type 0} (out : Outside K) (order : Option OrderWords) (ended : Status) (o : OrderWords)
+    → Ending out order ended → order ≡ Some o → MustAccept out o → EndsAs status.Done ended
+accepts out order status.Done o h some m = inl refl
+accepts out order status.Open o (text, (p, is, answers), _) some m = answered_done out order o p status.Open text m some is answers
+accepts out order status.Usage o (_, (none, _), _) some m = cc
+accepts out order status.Refused o (_, (p, fault, is, refuses, _), _) some m =
+    absurd (accepted_is_valid out.files o fault m.told m.accepted (as_asked (λ (x : OrderWords). Refuses out.files x fault) order p o is some refuses))
+accepts out order status.ReadFault o (_, (p, file, is, unread, _), _) some m =
+    absurd (m.read file (as_asked (λ (x : OrderWords). Unread out.files out.files_after (files_of x) file) order p o is some unread))
+accepts out order status.WriteFault o h some m = inr (inl refl)
+accepts out order status.Memory o h some m = inr (inr refl)
+accepts out order status.ReportRefused o (text, (p, is, answers), _) some m =
+    answered_done out order o p status.ReportRefused text m some is answers

@@ -1,6 +1,7 @@
 -- The steps from the bytes of two files to an input: which step decides.
-use Rattle.std.proofs.Common.{◌≡◌, ◌⊎◌, inl, inr, ℕ, zero, suc, ◌≤◌, ◌<◌, ◌+◌, Bool, true, false, List, [], ◌∷◌, length, Option, Some, None, Result, Ok, Err, refl, sym, ap, subst, ◌∙◌, le-leb, arith, nat_le}
+use Rattle.std.proofs.Common.{◌≡◌, ℕ, zero, suc, ◌≤◌, ◌<◌, ◌+◌, Bool, true, false, List, [], ◌∷◌, length, Option, Some, None, Result, Ok, Err, refl, sym, ap, subst, ◌∙◌, le-leb, arith, nat_le}
 use Rattle.std.specs.Prelude.{IfSome, if◌then◌else◌}
+use Rattle.std.proofs.lemmas.Bool.{leb-true}
 use Rattle.std.proofs.lemmas.Bool.Decides.{nat_tests}
 use Rattle.lam_stock.specs.declared.fault.StockFault.{StockFault}
 use Rattle.lam_stock.specs.declared.item.Item.{Item}
@@ -56,6 +57,23 @@ pub too_long : (told : Option (List ℕ)) (file : Source) → IfSome told (λ by
     → (bytes : List ℕ) × IsContent told bytes × (within_length file bytes ≡ Err (fault.TooLong file))
 too_long None file h = let bytes = longer (most_bytes file) in (bytes.0, tt, beyond file bytes.0 bytes.1)
 too_long (Some bytes) file h = (bytes, refl, beyond file bytes h)
+
+-- a file that is refused for its length is too long
+excess : (file : Source) (bytes : List ℕ) (f : Fault) (test : Bool) → limited file bytes test ≡ Err f → fault_status f ≡ status.Refused
+excess file bytes f true e = cc
+excess file bytes f false e =
+    let same : fault.TooLong file ≡ f = cc in subst (λ (x : Fault). fault_status x ≡ status.Refused) same refl
+
+pub length_status : (file : Source) (bytes : List ℕ) (f : Fault) → within_length file bytes ≡ Err f → fault_status f ≡ status.Refused
+length_status file bytes f = excess file bytes f (nat_le (length bytes) (most_bytes file))
+
+by_test : (n m : ℕ) (test : Bool) → nat_le n m ≡ test → (bytes kept : List ℕ) (file : Source) → limited file bytes test ≡ Ok kept → n ≤ m
+by_test n m true h bytes kept file e = leb-true n m h
+by_test n m false h bytes kept file e = cc
+
+pub length_within : (file : Source) (bytes kept : List ℕ) → within_length file bytes ≡ Ok kept → length bytes ≤ most_bytes file
+length_within file bytes kept =
+    by_test (length bytes) (most_bytes file) (nat_le (length bytes) (most_bytes file)) refl bytes kept file
 
 -- ---- which step decides
 

@@ -1,22 +1,20 @@
 -- A job that bytes mean beside a catalogue is one of that catalogue.
-use Rattle.std.proofs.Common.{◌≡◌, ◌⊎◌, inl, inr, ℕ, ◌≤◌, ◌<◌, ◌^◌, Bool, true, false, nat_lt, List, [], ◌∷◌, length, map, Option, Some, None, Result, Ok, Err, refl, sym, ap, subst, ◌∙◌, All, arith, bit_or, bit_and}
-use Rattle.std.specs.Prelude.{IfSome, IsBitSet, filter_map}
-use Rattle.std.specs.List.{position, cons_option}
+use Rattle.std.proofs.Common.{◌≡◌, ℕ, ◌≤◌, ◌<◌, ◌^◌, Bool, true, false, nat_lt, List, [], ◌∷◌, length, map, Option, Some, None, Ok, refl, subst, ◌∙◌, All, arith, bit_or, bit_and}
+use Rattle.std.specs.Prelude.{IfSome, filter_map}
+use Rattle.std.specs.List.{cons_option}
 use Rattle.std.specs.Option.{option_map, option_and_then, unwrap_or}
 use Rattle.std.proofs.lemmas.Bool.Decides.{nat_tests}
 use Rattle.std.proofs.lemmas.List.Elements.{All-cons, All-head, All-nil, All-tail}
 use Rattle.std.proofs.lemmas.List.Quantifiers.{position-Some}
 use Rattle.std.proofs.lemmas.Nat.{and_le_l, and_or_apart, pow_apart}
-use Rattle.toml.specs.Data.{Data, Members, as_str, as_integer}
+use Rattle.toml.specs.Data.{Data, Members, as_str}
 use Rattle.lam_stock.specs.declared.item.Item.{Item}
 use Rattle.lam_stock.specs.declared.item.ItemNo.{ItemNo}
 use Rattle.lam_stock.specs.Likeness.{has_name, place_of}
-use Rattle.lam_stock.specs.Stock.{IsKnown}
 use Rattle.lam_job.specs.declared.fault.JobFault.{JobFault}
 use Rattle.lam_job.specs.declared.fault.JobKey.{JobKey}
 use Rattle.lam_job.specs.declared.fault.JobKey.TheVariants as key
 use Rattle.lam_job.specs.declared.fault.JobTable.TheVariants as table
-use Rattle.lam_job.specs.declared.rules.ItemSet.{ItemSet}
 use Rattle.lam_job.specs.JobData.{JobData}
 use Rattle.lam_job.specs.JobOf.{as_list, bits_of, count_of, data_of, document_of, entries_of, item_named, item_of, items_if, job_fault, job_of, job_of_document, set_of, settled, table_in, under, value_at}
 use Rattle.lam_job.specs.Schedule.{HoldsKnown, IsJobFor}

@@ -16,7 +16,17 @@ pub mod OrderFacts
 pub mod ModeSteps
 -- printed ratios are those that an analysis has to say
 pub mod PrintedLines
+-- no printed ratio is above the greatest
+pub mod PrintedBounds
+-- the lists of printed ratios, from the room of a schedule
+pub mod PrintedLists
+-- the number of nodes that words name
+pub mod Budgets
 -- from the steps of an analysis to its ending
 pub mod AnalysisSteps
+-- from the steps of a check to its ending
+pub mod CheckSteps
 -- the endings of a run
 pub mod Endings
+-- from the steps of a design to its ending
+pub mod DesignSteps

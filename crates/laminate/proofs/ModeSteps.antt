@@ -1,11 +1,9 @@
 -- From the steps of a mode to what it did.
-use Rattle.std.proofs.Common.{◌≡◌, ◌⊎◌, inl, inr, ℕ, ◌≤◌, List, [], Option, Some, None, Result, Ok, Err, refl, sym, subst, ◌∙◌, le_trans}
-use Rattle.std.specs.Prelude.{IfSome}
+use Rattle.std.proofs.Common.{◌≡◌, inl, inr, ℕ, List, [], Option, Some, None, Result, Ok, Err, refl, sym, subst, ◌∙◌, le_trans}
 use Rattle.lam_outside.proofs.Growth.{Rose-after}
-use Rattle.lam_words.specs.Reading.{OrderWords, analyse}
+use Rattle.lam_words.specs.Reading.{OrderWords}
 use Rattle.laminate.specs.declared.fault.Fault.{Fault}
 use Rattle.laminate.specs.declared.fault.Fault.TheVariants as fault
-use Rattle.laminate.specs.declared.fault.ScheduleFault.{ScheduleFault}
 use Rattle.laminate.specs.declared.fault.Source.{Source}
 use Rattle.laminate.specs.declared.fault.Source.TheVariants as source
 use Rattle.laminate.specs.declared.fault.Stop.{Stop}
@@ -16,8 +14,8 @@ use Rattle.laminate.specs.declared.status.Status.TheVariants as status
 use Rattle.laminate.specs.Answers.{Refuses}
 use Rattle.laminate.specs.Ending.{Due}
 use Rattle.laminate.specs.Faults.{fault_line, fault_status}
-use Rattle.laminate.specs.Input.{input_of, within_length}
-use Rattle.laminate.specs.Orders.{FileNames, Holds, Say, Unread, files_of}
+use Rattle.laminate.specs.Input.{input_of}
+use Rattle.laminate.specs.Orders.{FileNames, Say, Unread, files_of}
 use Rattle.laminate.specs.Outside.{FilesSeen, FilesStay, IsContent}
 use Rattle.laminate.specs.inside.Steps.{Gives, Takes, TakesInput}
 use Rattle.laminate.proofs.InputSteps.{long_catalogue, long_job, refusal_status}
@@ -35,7 +33,7 @@ some_content : (told : Option (List ℕ)) → (bytes : List ℕ) × IsContent to
 some_content None = ([], tt)
 some_content (Some bytes) = (bytes, refl)
 
-same_content : (a b : Option (List ℕ)) (bytes : List ℕ) → a ≡ b → IsContent a bytes → IsContent b bytes
+pub same_content : (a b : Option (List ℕ)) (bytes : List ℕ) → a ≡ b → IsContent a bytes → IsContent b bytes
 same_content a b bytes e is = subst (λ (x : Option (List ℕ)). IsContent x bytes) e is
 
 -- the names of a job and a catalogue that are taken, beside that of a report

@@ -1,5 +1,5 @@
 -- The plies that a schedule word lists: 1 to 56, each of the catalogue.
-use Rattle.std.proofs.Common.{◌≡◌, ◌⊎◌, ℕ, suc, ◌+◌, ◌≤◌, ◌<◌, Bool, true, false, cond, List, [], ◌∷◌, length, Option, Some, None, Result, Ok, Err, refl, sym, ap, subst, ◌∙◌, All, arith, nat_lt}
+use Rattle.std.proofs.Common.{◌≡◌, ℕ, suc, ◌+◌, ◌≤◌, Bool, true, false, cond, List, [], ◌∷◌, length, Option, Some, None, Ok, Err, refl, ap, subst, arith, nat_lt}
 use Rattle.std.specs.Prelude.{filter_map, count_by, is_none, if◌then◌else◌, ◌==◌}
 use Rattle.std.specs.List.{cons_option, position_from}
 use Rattle.std.proofs.lemmas.Bool.Decides.{nat_tests}
@@ -11,7 +11,6 @@ use Rattle.lam_job.specs.declared.limits.TheConstants.{MOST_PLIES}
 use Rattle.lam_job.specs.JobData.{JobData}
 use Rattle.lam_job.specs.JobOf.{item_named}
 use Rattle.lam_job.specs.Schedule.{IsJobFor}
-use Rattle.laminate.specs.declared.fault.ScheduleFault.{ScheduleFault}
 use Rattle.laminate.specs.declared.fault.ScheduleFault.TheVariants.{Many}
 use Rattle.laminate.specs.Schedule.{is_unknown, names_of, plies_named, schedule_of, settled}
 use Rattle.lam_judge.specs.Judgements.{IsSchedule}

@@ -1,7 +1,6 @@
 -- The names of schedule words, and what the lines of faults say, on examples.
-use Rattle.std.proofs.Common.{◌≡◌, List, [], ◌∷◌, ◌++◌, Result, Ok, Err, refl}
+use Rattle.std.proofs.Common.{◌≡◌, [], ◌∷◌, ◌++◌, Err, refl}
 use Rattle.std.specs.Prelude.{codes, decimal}
-use Rattle.lam_job.specs.declared.fault.JobFault.{JobFault}
 use Rattle.lam_job.specs.declared.fault.JobTable.TheVariants as at
 use Rattle.lam_job.specs.declared.fault.JobKey.TheVariants as key
 use Rattle.lam_job.specs.declared.fault.JobCause.TheVariants as cause

@@ -7,7 +7,7 @@ use Rattle.laminate.specs.declared.fault.Fault.TheVariants as fault
 use Rattle.laminate.specs.declared.fault.Source.{Source}
 use Rattle.laminate.specs.declared.status.Status.{Status}
 use Rattle.laminate.specs.declared.status.Status.TheVariants as status
-use Rattle.laminate.specs.Answers.{Answers, Refuses}
+use Rattle.laminate.specs.Answers.{Answers, ChecksAccepted, Refuses}
 use Rattle.laminate.specs.Faults.{fault_line}
 use Rattle.laminate.specs.Orders.{AllRead, IsTold, Unread, files_of}
 use Rattle.laminate.specs.Outside.{FilesSeen, Outside, SinkFailed, Wrote, WrotePrefix}
@@ -47,7 +47,7 @@ Ending out order status.ReportRefused = WroteDue out order status.ReportRefused
 abbrev pub EndsAs : Status → Status → Type 0
 EndsAs due ended = (ended ≡ due) ⊎ (ended ≡ status.WriteFault) ⊎ (ended ≡ status.Memory)
 
--- ---- what has to end with a refusal, and what with an answer
+-- ---- what has to end with a refusal, what with an answer, and what with an acceptance
 
 -- each file that the order reaches is told and was read, and a fault is the first cause to refuse the order
 pub record MustRefuse {K : Type 0} (out : Outside K) (o : OrderWords) (f : Fault) : Type 0 where
@@ -61,3 +61,9 @@ pub record MustAnswer {K : Type 0} (out : Outside K) (o : OrderWords) : Type 0 w
   pub valid : (f : Fault) → ¬ Refuses out.files o f
   pub faults : ¬ Rose out.sink.faults out.sink_after.faults
   pub stalls : ¬ Rose out.sink.stalls out.sink_after.stalls
+
+-- each file that the order reaches is told and was read, and the order is to check a report that is accepted
+pub record MustAccept {K : Type 0} (out : Outside K) (o : OrderWords) : Type 0 where
+  pub read : AllRead out.files out.files_after (files_of o)
+  pub told : IsTold out.files (files_of o)
+  pub accepted : ChecksAccepted out.files o

@@ -6,13 +6,15 @@ use Rattle.lam_stock.specs.declared.fault.StockFault.{StockFault}
 use Rattle.lam_job.specs.declared.fault.JobCause.{JobCause}
 use Rattle.lam_job.specs.declared.fault.JobCause.TheVariants as job_cause
 use Rattle.lam_job.specs.declared.fault.JobFault.{JobFault}
-use Rattle.lam_job.specs.declared.fault.JobKey.{JobKey}
-use Rattle.lam_job.specs.declared.fault.JobPlace.{JobPlace}
 use Rattle.lam_job.specs.declared.fault.JobTable.{JobTable}
 use Rattle.lam_job.specs.declared.fault.JobTable.TheVariants as at
 use Rattle.lam_job.specs.Keys.{key_text, table_text}
+use Rattle.lam_check.specs.declared.fault.CheckCause.{CheckCause}
+use Rattle.lam_check.specs.declared.fault.CheckCause.TheVariants as check_cause
 use Rattle.laminate.specs.declared.fault.Fault.{Fault}
 use Rattle.laminate.specs.declared.fault.Fault.TheVariants as fault
+use Rattle.laminate.specs.declared.fault.ReportRefusal.{ReportRefusal}
+use Rattle.laminate.specs.declared.fault.ReportRefusal.TheVariants as refusal
 use Rattle.laminate.specs.declared.fault.ScheduleFault.{ScheduleFault}
 use Rattle.laminate.specs.declared.fault.ScheduleFault.TheVariants as schedule
 use Rattle.laminate.specs.declared.fault.Source.{Source}
@@ -90,6 +92,30 @@ schedule_text schedule.Many = codes "many"
 schedule_text (schedule.Name number) = codes "name " ++ decimal number
 schedule_text (schedule.Range number) = codes "range " ++ decimal number
 
+-- ---- why a report is refused: the line, counted from 1, and the cause
+
+abbrev pub check_cause_text : CheckCause → List ℕ
+check_cause_text check_cause.Cost = codes "cost"
+check_cause_text check_cause.Best = codes "best"
+check_cause_text check_cause.Ratio = codes "ratio"
+check_cause_text check_cause.Near = codes "near"
+check_cause_text check_cause.Order = codes "order"
+check_cause_text check_cause.Unlawful = codes "unlawful"
+check_cause_text check_cause.Leaf = codes "leaf"
+check_cause_text check_cause.Budget = codes "budget"
+check_cause_text check_cause.Answer = codes "answer"
+
+abbrev pub report_cause_text : ReportRefusal → List ℕ
+report_cause_text (refusal.Form f) = codes "form"
+report_cause_text (refusal.Cause f) = check_cause_text f.cause
+
+abbrev pub report_line : ReportRefusal → ℕ
+report_line (refusal.Form f) = f.line
+report_line (refusal.Cause f) = f.line
+
+abbrev pub report_text : ReportRefusal → List ℕ
+report_text r = codes "line " ++ (decimal (report_line r) ++ (codes " " ++ report_cause_text r))
+
 -- ---- all faults
 
 -- the line of a fault, without its end
@@ -100,6 +126,7 @@ fault_text (fault.TooLong file) = codes "refused " ++ (source_text file ++ codes
 fault_text (fault.Catalogue f) = codes "refused catalogue: " ++ stock_text f
 fault_text (fault.Job f) = codes "refused job: " ++ job_text f
 fault_text (fault.Schedule f) = codes "refused schedule: " ++ schedule_text f
+fault_text (fault.Report r) = codes "refused report: " ++ report_text r
 
 abbrev pub fault_line : Fault → List ℕ
 fault_line f = fault_text f ++ codes "\n"
@@ -111,3 +138,4 @@ fault_status (fault.TooLong file) = status.Refused
 fault_status (fault.Catalogue f) = status.Refused
 fault_status (fault.Job f) = status.Refused
 fault_status (fault.Schedule f) = status.Refused
+fault_status (fault.Report r) = status.ReportRefused

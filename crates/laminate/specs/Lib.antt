@@ -10,6 +10,10 @@ pub mod Orders
 pub mod Schedule
 -- what an order to analyse is refused for, and answered with
 pub mod Analysis
+-- what an order to design is answered with
+pub mod Design
+-- what an order to check is refused for, and answered with
+pub mod Checking
 -- what each order is answered with, and refused for
 pub mod Answers
 -- the table of statuses: what a run that ended with each of them did

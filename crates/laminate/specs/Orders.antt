@@ -12,9 +12,9 @@ use Rattle.laminate.specs.Outside.{FilesSeen, IsContent}
 
 -- an order of a mode that is built; words that ask for another have no reading today
 abbrev pub if_built : OrderWords → Option OrderWords
-if_built (design job catalogue options) = None
+if_built (design job catalogue options) = Some (design job catalogue options)
 if_built (analyse job catalogue schedule) = Some (analyse job catalogue schedule)
-if_built (check job catalogue report) = None
+if_built (check job catalogue report) = Some (check job catalogue report)
 if_built (sample number options) = None
 
 -- the order that texts are, if they are one

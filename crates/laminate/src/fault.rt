@@ -1,10 +1,12 @@
 //! The faults that end a run, with their lines and their statuses.
 
 ghost use Rattle.std.specs.Prelude.{◌≡◌, Some};
-ghost use Rattle.laminate.specs.Faults.{fault_status, fault_text, job_text, schedule_text, stock_text};
+ghost use Rattle.laminate.specs.Faults.{fault_status, fault_text, job_text, report_text, schedule_text, stock_text};
 
 use crate::status::Status;
+use lam_check::CheckFault;
 use lam_job::JobFault;
+use lam_report::ReportFault;
 use lam_stock::StockFault;
 use std::fmt;
 
@@ -12,7 +14,8 @@ use std::fmt;
 mod cause_words;
 
 use cause_words::{
-    Key, Number, job_cause_word, number_shown, source_word, stock_cause_word, table_word,
+    Key, Number, job_cause_word, number_shown, report_cause_word, report_line, source_word,
+    stock_cause_word, table_word,
 };
 
 /// A file that a run takes.
@@ -36,6 +39,15 @@ pub enum ScheduleFault {
     Range(u8),
 }
 
+/// Why a report is refused, with its line, counted from 1.
+#[derive(Clone, Copy, Debug, PartialEq, Eq)]
+pub enum ReportRefusal {
+    /// It stops being a report of the job and the catalogue.
+    Form(ReportFault),
+    /// It is one, and something that it says is wrong.
+    Cause(CheckFault),
+}
+
 /// Why an order has no answer.
 #[derive(Clone, Copy, Debug)]
 pub enum Fault {
@@ -51,6 +63,8 @@ pub enum Fault {
     Job(JobFault),
     /// The schedule word is refused.
     Schedule(ScheduleFault),
+    /// The report is refused.
+    Report(ReportRefusal),
 }
 
 /// What ends the work on an order: a fault that is written, or want of memory.
@@ -71,6 +85,7 @@ impl Fault {
             Fault::TooLong(_) | Fault::Catalogue(_) | Fault::Job(_) | Fault::Schedule(_) => {
                 Status::Refused
             }
+            Fault::Report(_) => Status::ReportRefused,
         }
     }
 }
@@ -102,6 +117,10 @@ impl fmt::Display for Fault {
                 write!(f, "refused job: {why}")
             }
             Fault::Schedule(fault) => write!(f, "refused schedule: {fault}"),
+            Fault::Report(refusal) => {
+                let why = ReportLine(*refusal);
+                write!(f, "refused report: {why}")
+            }
         }
     }
 }
@@ -134,6 +153,20 @@ impl fmt::Display for JobLine {
         let key = Key(place.key);
         let cause = job_cause_word(cause);
         write!(f, "{table}{number}{key} {cause}")
+    }
+}
+
+/// What a line says of why a report is refused.
+#[derive(Clone, Copy)]
+struct ReportLine(ReportRefusal);
+
+impl fmt::Display for ReportLine {
+    ghost output = { λ line. Some (report_text line.0) };
+
+    fn fmt<W: fmt::Write>(&self, f: &mut fmt::Formatter<W>) -> fmt::Result {
+        let line = report_line(self.0);
+        let cause = report_cause_word(self.0);
+        write!(f, "line {line} {cause}")
     }
 }
 

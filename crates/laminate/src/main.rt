@@ -13,6 +13,8 @@ mod status;
 mod input;
 mod range;
 mod schedule;
+// The printed ratios of the best schedule of a search.
+mod printed;
 // The modes, one file each.
 mod modes;
 // The top call.

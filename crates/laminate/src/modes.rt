@@ -1,3 +1,5 @@
 //! What the modes answer, one file a mode.
 
 pub mod analyse;
+pub mod check;
+pub mod design;

@@ -4,7 +4,8 @@ ghost use Rattle.std.specs.Prelude.{◌≡◌, Some};
 ghost use Rattle.lam_job.specs.Keys as keys;
 ghost use Rattle.laminate.specs.Faults as spec;
 
-use crate::fault::Source;
+use crate::fault::{ReportRefusal, Source};
+use lam_check::CheckCause;
 use lam_job::{JobCause, JobKey, JobTable};
 use lam_stock::StockCause;
 use std::fmt;
@@ -56,6 +57,42 @@ pub fn job_cause_word(cause: JobCause) -> &'static str
         JobCause::Range => "range",
         JobCause::Item => "item",
         JobCause::Unknown => "unknown",
+    }
+}
+
+/// The number of the line of a report at which it is refused.
+pub fn report_line(refusal: ReportRefusal) -> u32
+    ensures { result ≡ spec.report_line refusal }
+{
+    match refusal {
+        ReportRefusal::Form(fault) => fault.line,
+        ReportRefusal::Cause(fault) => fault.line,
+    }
+}
+
+/// The word that the cause of a report's refusal is printed as.
+pub fn report_cause_word(refusal: ReportRefusal) -> &'static str
+    ensures { result.now ≡ spec.report_cause_text refusal }
+{
+    match refusal {
+        ReportRefusal::Form(_) => "form",
+        ReportRefusal::Cause(fault) => check_cause_word(fault.cause),
+    }
+}
+
+fn check_cause_word(cause: CheckCause) -> &'static str
+    ensures { result.now ≡ spec.check_cause_text cause }
+{
+    match cause {
+        CheckCause::Cost => "cost",
+        CheckCause::Best => "best",
+        CheckCause::Ratio => "ratio",
+        CheckCause::Near => "near",
+        CheckCause::Order => "order",
+        CheckCause::Unlawful => "unlawful",
+        CheckCause::Leaf => "leaf",
+        CheckCause::Budget => "budget",
+        CheckCause::Answer => "answer",
     }
 }
 

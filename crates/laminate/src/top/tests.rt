@@ -8,8 +8,12 @@ use std::test::Fail;
 
 // What analyses write.
 mod analyses;
+// What designs write.
+mod designs;
 // What words, files and schedules are refused for.
 mod refusals;
+// What checks of reports answer.
+mod checks;
 // What becomes of the guides, and of a text that can't be written whole.
 mod edges;
 

@@ -1,4 +1,4 @@
-use Rattle.std.proofs.Common.{◌≡◌, ap, sym, ◌∙◌, w64}
+use Rattle.std.proofs.Common.{ap, ◌∙◌, w64}
 use Rattle.std.proofs.lemmas.Int.{to_z-of_z}
 use Rattle.lam_fraction.proofs.numbers.Machine.{stored-64}
 use Rattle.lam_stock.specs.declared.scale.Scale.{Scale}

@@ -1,7 +1,6 @@
-use Rattle.std.proofs.Common.{◌≡◌, ◌<◌, ◌≤◌, ◌==◌, ℕ, Bool, true, false, length, sym, ap, ◌∙◌, arith}
+use Rattle.std.proofs.Common.{◌≡◌, ◌<◌, ◌==◌, ℕ, true, false, length, sym, ap, ◌∙◌, arith}
 use Rattle.std.specs.Prelude.{count_by}
 use Rattle.std.proofs.lemmas.Bool.Decides.{nat_tests}
-use Rattle.lam_job.specs.declared.limits.TheConstants.{MOST_PLIES}
 use Rattle.laminate.proofs.Listings.{empty_word, few_names, many_names, named_word}
 use Rattle.laminate.proofs.schedule.listed_by.Goals as goal
 

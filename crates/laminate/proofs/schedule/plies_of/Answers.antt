@@ -1,9 +1,8 @@
-use Rattle.std.proofs.Common.{◌≡◌, ◌+◌, ◌<◌, ◌≤◌, length, get_or, drop, subst, sym, ap, ◌∙◌, lit<, arith, ℕ, List, Result}
+use Rattle.std.proofs.Common.{length, ◌∙◌, lit<, arith}
 use Rattle.std.proofs.lemmas.Iterator.Consumers.{YieldsList-end, YieldsList-turn}
 use Rattle.std.proofs.lemmas.Iterator.Splits.{YieldsList-from_str_split}
 use Rattle.std.proofs.lemmas.List.{length_push}
-use Rattle.laminate.specs.Schedule.{names_of, plies_named}
-use Rattle.laminate.specs.inside.Listing.{list_names}
+use Rattle.laminate.specs.Schedule.{names_of}
 use Rattle.laminate.proofs.Listings.{all_listed, listed_all, one_listed, one_refused}
 use Rattle.laminate.proofs.schedule.plies_of.Goals as goal
 

@@ -83,16 +83,21 @@ fn a_full_sink_holds_a_prefix(rt: HostRuntime) -> Result<(), Fail> {
     Ok(())
 }
 
-/// A guide that counts the drops of its kind in a shared cell.
+/// A guide that counts the drops of its kind in a shared cell, and what it is told in another.
 struct Counted {
     heard: u64,
     drops: Rc<Cell<u32>>,
+    told: Rc<Cell<u32>>,
 }
 
 impl Drop for Counted {
     fn drop(self) {
         self.drops.set(self.drops.get().wrapping_add(1));
-        let Counted { heard: _, drops: _ } = self;
+        let Counted {
+            heard: _,
+            drops: _,
+            told: _,
+        } = self;
     }
 }
 
@@ -109,16 +114,18 @@ impl Guide for Counted {
 
     fn told(&mut self, _event: &Event, _depth: u8, _item: u8) {
         self.heard += 1;
+        self.told.set(self.told.get().wrapping_add(1));
     }
 }
 
 /// A guide that has heard nothing.
-fn counting_guide(drops: &Rc<Cell<u32>>) -> Result<Counted, AllocError>
+fn counting_guide(drops: &Rc<Cell<u32>>, told: &Rc<Cell<u32>>) -> Result<Counted, AllocError>
     ensures { IfOk result (λ guide. guide.heard ≡ 0) }
 {
     Ok(Counted {
         heard: 0,
         drops: drops.clone()?,
+        told: told.clone()?,
     })
 }
 
@@ -154,19 +161,65 @@ fn watched_run(
         drops: drops.clone()?,
         seen: seen.clone()?,
     };
+    let told = Rc::new(alloc, Cell::new(0))?;
     let mut guides = Vec::new(alloc);
-    seat(&mut guides, Box::new(alloc, counting_guide(drops)?)?)?;
-    seat(&mut guides, Box::new(alloc, counting_guide(drops)?)?)?;
-    seat(&mut guides, Box::new(alloc, counting_guide(drops)?)?)?;
+    seat(&mut guides, Box::new(alloc, counting_guide(drops, &told)?)?)?;
+    seat(&mut guides, Box::new(alloc, counting_guide(drops, &told)?)?)?;
+    seat(&mut guides, Box::new(alloc, counting_guide(drops, &told)?)?)?;
     Ok(run(alloc, words.as_slice(), &mut files, &mut sink, guides))
 }
 
+/// How often each of three guides was told of a node in a design that names one of them, and how
+/// many were dropped.
+fn told_of_nodes(alloc: Global, name: &str) -> Result<[u32; 4], AllocError> {
+    let drops = Rc::new(alloc, Cell::new(0))?;
+    let first = Rc::new(alloc, Cell::new(0))?;
+    let second = Rc::new(alloc, Cell::new(0))?;
+    let third = Rc::new(alloc, Cell::new(0))?;
+    let line = format!(in alloc; "design job catalogue --guide {name}")?;
+    let words = words_of(alloc, line.as_str())?;
+    let mut files = files_of_a_mat(alloc)?;
+    let mut sink = MemorySink::new(alloc, 1000, 1000)?;
+    let mut guides = Vec::new(alloc);
+    seat(
+        &mut guides,
+        Box::new(alloc, counting_guide(&drops, &first)?)?,
+    )?;
+    seat(
+        &mut guides,
+        Box::new(alloc, counting_guide(&drops, &second)?)?,
+    )?;
+    seat(
+        &mut guides,
+        Box::new(alloc, counting_guide(&drops, &third)?)?,
+    )?;
+    let _status = run(alloc, words.as_slice(), &mut files, &mut sink, guides);
+    Ok([first.get(), second.get(), third.get(), drops.get()])
+}
+
 #[test]
-fn guides_that_no_mode_needs_are_dropped_before_a_file_is_taken(
+fn the_guide_that_is_named_hears_of_each_node_and_no_other_hears_of_any(
+    rt: HostRuntime,
+) -> Result<(), Fail> {
+    let rows = [
+        ("cheapest", [5, 0, 0, 3]),
+        ("thickest", [0, 5, 0, 3]),
+        ("learner", [0, 0, 5, 3]),
+    ];
+    for (name, expected) in rows {
+        let told = told_of_nodes(rt.alloc(), name)?;
+        assert_eq!(rt; told, expected, "{name}");
+    }
+    Ok(())
+}
+
+#[test]
+fn guides_that_the_mode_does_not_need_are_dropped_before_a_file_is_taken(
     rt: HostRuntime,
 ) -> Result<(), Fail> {
     let rows = [
         ("analyse job catalogue mat", Status::Memory, 3),
+        ("design job catalogue", Status::Memory, 2),
         ("--help", Status::Usage, 0),
     ];
     for (line, status, dropped) in rows {

@@ -10,8 +10,13 @@ fn words_and_names_of_files_have_their_faults(rt: HostRuntime) -> Result<(), Fai
     let rows = [
         ("", Status::Usage, USAGE),
         ("design job", Status::Usage, USAGE),
-        ("design job catalogue", Status::Usage, USAGE),
-        ("check job catalogue report", Status::Usage, USAGE),
+        ("design job catalogue --nodes 0", Status::Usage, USAGE),
+        ("design none none", Status::ReadFault, "cannot read job\n"),
+        (
+            "check job catalogue none",
+            Status::ReadFault,
+            "cannot read report\n",
+        ),
         ("sample 1", Status::Usage, USAGE),
         ("--help", Status::Usage, USAGE),
         ("analyse job catalogue mat --nodes 5", Status::Usage, USAGE),
