@@ -16,6 +16,8 @@ pub mod PlacedPlies
 pub mod WallsLaid
 -- verdicts over both scales
 pub mod TwoScales
+-- what one scale alone settles
+pub mod Settled
 -- lists that are walked by number
 pub mod Walked
 -- the plies, cases and panels that are
@@ -24,6 +26,8 @@ pub mod PlacesWalked
 pub mod PlyFacts
 -- verdicts under a case
 pub mod LoadedVerdicts
+-- a ply by the first scale alone
+pub mod CoarsePlies
 -- what computed judgements say
 pub mod truth
 -- the computed judgement, step by step

@@ -1,5 +1,5 @@
 -- What is known of a ply of a wall, by its number: its item, its criterion, and z of its faces.
-use Rattle.std.proofs.Common.{◌≡◌, sym, ◌∙◌, ap, subst, ℕ, ◌+◌, ◌<◌, ℤ, List, length, get_or, slice_get, Some, FitsSigned, w64, add-one, arith}
+use Rattle.std.proofs.Common.{◌≡◌, refl, sym, ◌∙◌, ap, subst, ℕ, ◌+◌, ◌<◌, ℤ, neg_ℤ, List, length, get_or, slice_get, Some, FitsSigned, w64, add-one, arith}
 use Rattle.std.proofs.lemmas.Int.{ints, to_z-of_z}
 use Rattle.std.proofs.lemmas.List.Elements.{All-get_or}
 use Rattle.std.proofs.lemmas.Option.{get_or_from_slice_get, same_Some, slice_get_within}
@@ -35,7 +35,14 @@ use Rattle.lam_judge.specs.inside.Ratios.{ply_ratio}
 use Rattle.lam_judge.specs.inside.Scales.{coarse, fine}
 use Rattle.lam_judge.specs.inside.Tables.{AreTablesOf, criteria}
 use Rattle.lam_judge.proofs.PlacedPlies.{LiesIn, inner-face, lies-in, outer-face, ply-item, ply-there}
-use Rattle.lam_judge.proofs.WallsLaid.{coarse-laws, fine-laws, thin}
+use Rattle.lam_judge.proofs.WallsLaid.{coarse-laws, fine-laws, thick, thin}
+
+-- z of the inner surface
+pub first-stored : {stock : List Item} {l : Layup} → IsLayupOf stock l → (d : ℤ) → stored-64 (get_or l.faces 0 d) ≡ neg_ℤ (wall_thickness (items_of stock l.plies))
+first-stored {stock} {l} is d =
+    let h = wall_thickness (items_of stock l.plies) in
+    let fits : FitsSigned w64 (neg_ℤ h) = omega (arith, ints, is.thickness, thick is, thin is) in
+    ap stored-64 (get_or_from_slice_get l.faces 0 (neg_ℤ h) d (is.faces 0 (neg_ℤ h) refl)) ∙ to_z-of_z w64 (neg_ℤ h) fits
 
 -- an item of a catalogue
 pub of-catalogue : {scale : Scale} (stock : List Item) → IsStock stock scale → (k : ℕ) (i : Item) → slice_get stock k ≡ Some i → IsItemOf scale i
@@ -47,6 +54,9 @@ module _ {stock : List Item} {l : Layup} (is : IsLayupOf stock l) (k : ℕ) (ply
 
   known : ply.0 < length stock
   known = subst (λ (p : ItemNo). p.0 < length stock) (get_or_from_slice_get l.plies k ply ply at) (All-get_or (λ (p : ItemNo). p.0 < length stock) l.plies k ply (slice_get_within l.plies k ply at) is.plies.known)
+
+  pub few-items : ply.0 < 64
+  few-items = omega (arith, known, is.plies.catalogue.few)
 
   pub there : (p : Placed) × (slice_get (placed_plies wall) k ≡ Some p)
   there = let i = item_of stock ply known in ply-there stock l.plies is.plies.known k ply i.0 at i.1
@@ -92,12 +102,15 @@ module _ {stock : List Item} {l : Layup} (is : IsLayupOf stock l) (k : ℕ) (ply
     pub criteria-is : c ≡ criteria (scale_of stock) placed.item
     criteria-is = same_Some c (criteria (scale_of stock) placed.item) (sym found ∙ are.criteria ply.0 placed.item item-is)
 
+    pub made-coarse : ReachCriterion coarse c.coarse
+    made-coarse = subst (λ (x : Criteria). ReachCriterion coarse x.coarse) (sym criteria-is) (reach-criterion item-listed coarse-laws)
+
     pub made-fine : ReachCriterion fine c.fine
     made-fine = subst (λ (x : Criteria). ReachCriterion fine x.fine) (sym criteria-is) (reach-criterion item-listed fine-laws)
 
     pub ready : {loaded : Loaded} → IsBorne wall loaded → IsReady c loaded
     ready borne = record {
-      coarse_made = subst (λ (x : Criteria). ReachCriterion coarse x.coarse) (sym criteria-is) (reach-criterion item-listed coarse-laws);
+      coarse_made = made-coarse;
       fine_made = made-fine;
       coarse_short = borne.coarse_short;
       fine_short = borne.fine_short;

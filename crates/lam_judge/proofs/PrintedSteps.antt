@@ -20,15 +20,18 @@ use Rattle.lam_job.specs.Schedule.{items_of, wall_of}
 use Rattle.lam_job.specs.Strength.{CaseRatio, PlyRatio}
 use Rattle.lam_job.specs.Wall.{placed_plies, wall_thickness}
 use Rattle.lam_job.proofs.Listed.{items_of-length}
+use Rattle.lam_number.specs.declared.fix.Fix.{Fix}
+use Rattle.lam_wall.specs.declared.wall.Wall.{Wall}
 use Rattle.lam_wall.proofs.Assembled.{stands-for}
 use Rattle.lam_plate.specs.Panels.{wall_numbers}
 use Rattle.lam_plate.proofs.PanelFacts.{wall-same}
 use Rattle.lam_plate.proofs.PrintedFacts.{printed-stands}
 use Rattle.lam_judge.specs.Printed.{ArePrinted, HavePanelRatios, Printed}
+use Rattle.lam_judge.specs.declared.layup.Laid.{Laid}
 use Rattle.lam_judge.specs.declared.layup.Layup.{Layup}
 use Rattle.lam_judge.specs.inside.Judged.{matrices}
 use Rattle.lam_judge.specs.inside.Kept.{is_fit}
-use Rattle.lam_judge.specs.inside.Layups.{IsLayupOf}
+use Rattle.lam_judge.specs.inside.Layups.{IsLaid, IsLayupOf}
 use Rattle.lam_judge.specs.inside.Ratios.{case_ratios, panel_ratio, ply_ratio, printed}
 use Rattle.lam_judge.specs.inside.Scales.{fine}
 use Rattle.lam_judge.proofs.Kept.{fit-decides}
@@ -66,8 +69,9 @@ module _ (stock : List Item) (job : JobData) (listed : List ItemNo) (l : Layup) 
   unfit not true e = absurd (not ((fit-decides stock job listed).0 e))
   unfit not false e = refl
 
-  pub fit-printed : Fit stock job listed → printed_with wall (Some (map (panel_ratio fine (scale_of stock).q0 l.fine.wall) job.panels)) ≡ printed stock job listed
-  fit-printed fit = ap (λ w. printed_with wall (Some (map (panel_ratio fine (scale_of stock).q0 w) job.panels))) is.fine.wall ∙ fit-is true ((fit-decides stock job listed).1 fit)
+  pub fit-printed : {laid : Laid (Fix 60)} → IsLaid fine stock l.plies laid → Fit stock job listed
+      → printed_with wall (Some (map (panel_ratio fine (scale_of stock).q0 laid.wall) job.panels)) ≡ printed stock job listed
+  fit-printed made fit = ap (λ w. printed_with wall (Some (map (panel_ratio fine (scale_of stock).q0 w) job.panels))) made.wall ∙ fit-is true ((fit-decides stock job listed).1 fit)
 
   pub unfit-printed : ¬ Fit stock job listed → printed_with wall None ≡ printed stock job listed
   unfit-printed not = fit-is false (unfit not (is_fit stock job listed) refl)
@@ -78,12 +82,12 @@ module _ (stock : List Item) (job : JobData) (listed : List ItemNo) (l : Layup) 
   cases-printed number cases start room n c is_start is =
       is ∙ (λ i. record (is_start i) { ratios = flat_map (case_ratios (scale_of stock) wall) (c i) }) ∙ (λ i. record { plies = (n ∙ plies-number) i; ratios = flat_map (case_ratios (scale_of stock) wall) job.cases; panels = None })
 
-  pub panels-printed : (scale : Scale) (panels : List PanelData) (room begun done : Printed) → room ≡ printed_with wall None → begun ≡ record room { panels = Some [] } → scale ≡ scale_of stock → panels ≡ job.panels
-      → done ≡ record begun { panels = Some (map (panel_ratio fine scale.q0 l.fine.wall) panels) } → done ≡ printed_with wall (Some (map (panel_ratio fine (scale_of stock).q0 l.fine.wall) job.panels))
-  panels-printed scale panels room begun done is_room is_begun s p is =
+  pub panels-printed : (w : Wall (Fix 60)) (scale : Scale) (panels : List PanelData) (room begun done : Printed) → room ≡ printed_with wall None → begun ≡ record room { panels = Some [] } → scale ≡ scale_of stock → panels ≡ job.panels
+      → done ≡ record begun { panels = Some (map (panel_ratio fine scale.q0 w) panels) } → done ≡ printed_with wall (Some (map (panel_ratio fine (scale_of stock).q0 w) job.panels))
+  panels-printed w scale panels room begun done is_room is_begun s p is =
       is
-      ∙ (λ i. record (is_begun i) { panels = Some (map (panel_ratio fine (s i).q0 l.fine.wall) (p i)) })
-      ∙ (λ i. record (is_room i) { panels = Some (map (panel_ratio fine (scale_of stock).q0 l.fine.wall) job.panels) })
+      ∙ (λ i. record (is_begun i) { panels = Some (map (panel_ratio fine (s i).q0 w) (p i)) })
+      ∙ (λ i. record (is_room i) { panels = Some (map (panel_ratio fine (scale_of stock).q0 w) job.panels) })
 
   -- the loads are in range
   pub layup-in-range : InRangeForAll stock job listed → All (λ c. LoadInRange (scale_of stock).floor l.h (load_of c.kind)) job.cases

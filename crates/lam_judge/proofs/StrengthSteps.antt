@@ -12,18 +12,19 @@ use Rattle.lam_job.specs.Rules.{Fit, FitnessRule, Keeps}
 use Rattle.lam_job.specs.Schedule.{items_of, wall_of}
 use Rattle.lam_job.specs.Wall.{wall_thickness}
 use Rattle.lam_wall.specs.Assembled.{StandsFor}
+use Rattle.lam_wall.proofs.Assembled.{stands-for}
 use Rattle.lam_plate.specs.Panels.{IsFitWall, wall_numbers}
 use Rattle.lam_plate.proofs.PanelFacts.{wall-same}
 use Rattle.lam_judge.specs.Judgements.{IsSaid}
 use Rattle.lam_judge.specs.declared.judgement.Judgement.{Judgement}
 use Rattle.lam_judge.specs.declared.layup.Layup.{Layup}
-use Rattle.lam_judge.specs.inside.Judged.{by_findings, judged, panels_found, plies_found}
+use Rattle.lam_judge.specs.inside.Judged.{by_findings, judged, matrices, panels_found, plies_found}
 use Rattle.lam_judge.specs.inside.Kept.{first_out}
 use Rattle.lam_judge.specs.inside.Layups.{IsLayupOf}
 use Rattle.lam_judge.specs.inside.Scales.{fine}
 use Rattle.lam_judge.proofs.FirstBroken.{none-broken}
 use Rattle.lam_judge.proofs.JudgedSteps.{all-in-range, judged-strength}
-use Rattle.lam_judge.proofs.WallsLaid.{fine-laws, laid-stands}
+use Rattle.lam_judge.proofs.WallsLaid.{fine-laws}
 use Rattle.lam_judge.proofs.truth.JudgedTruth.{strength-said}
 
 pub some-plies : (t : Bool) (liner listed : List ItemNo) → 1 ≤ length listed → 1 ≤ length (if t then liner ++ listed else listed)
@@ -37,15 +38,15 @@ module _ (stock : List Item) (job : JobData) (listed : List ItemNo) (l : Layup) 
   pub layup-range : first_out stock job listed ≡ None → All (λ c. LoadInRange (scale_of stock).floor l.h (load_of c.kind)) job.cases
   layup-range e = subst (λ h. All (λ c. LoadInRange (scale_of stock).floor h (load_of c.kind)) job.cases) (sym (is.thickness ∙ ap wall_thickness same)) (all-in-range stock job listed e)
 
-  pub fit-wall : Fit stock job listed → IsFitWall fine (scale_of stock) l.fine.wall
+  pub fit-wall : Fit stock job listed → IsFitWall fine (scale_of stock) (matrices fine (scale_of stock) (items_of stock l.plies))
   fit-wall fit = (
     stock,
     job,
     listed,
-    record { fit = fit; stands = subst (StandsFor fine l.fine.wall (scale_of stock) stock) numbers (laid-stands fine-laws is.plies is.fine) },
+    record { fit = fit; stands = subst (StandsFor fine (matrices fine (scale_of stock) (items_of stock l.plies)) (scale_of stock) stock) numbers (stands-for fine-laws is.plies) },
   )
 
-  pub layup-fit : Keeps stock job listed → 0 < length job.panels → IsFitWall fine (scale_of stock) l.fine.wall
+  pub layup-fit : Keeps stock job listed → 0 < length job.panels → IsFitWall fine (scale_of stock) (matrices fine (scale_of stock) (items_of stock l.plies))
   layup-fit rules some = fit-wall (rules FitnessRule some)
 
   module _ (rules : Keeps stock job listed) (none : first_out stock job listed ≡ None) (r : Judgement)

@@ -7,7 +7,9 @@ use Rattle.lam_stock.specs.declared.item.Item.{Item}
 use Rattle.lam_stock.specs.declared.item.ItemNo.{ItemNo}
 use Rattle.lam_stock.specs.declared.scale.Scale.{Scale}
 use Rattle.lam_stock.specs.Scale.{scale_of}
+use Rattle.lam_job.specs.Schedule.{items_of}
 use Rattle.lam_wall.specs.Assembled.{ArePlies, IsWallOf, StandsFor}
+use Rattle.lam_wall.specs.inside.Formulas.{assembled}
 use Rattle.lam_wall.proofs.Assembled.{stands-for}
 use Rattle.lam_wall.proofs.CatalogueWalls.{wall-thick, wall-thin}
 use Rattle.lam_judge.specs.declared.layup.Laid.{Laid}
@@ -29,8 +31,8 @@ module _ {A : Type 0} {n : Numbers A} (laws : Lawful n) {stock : List Item} {num
   laid-wall scale e = subst (λ (s : Scale). IsWallOf n s laid.wall) (sym e) (stock, numbers, laid-stands)
 
 module _ {stock : List Item} {l : Layup} (is : IsLayupOf stock l) where
-  stands : StandsFor coarse l.coarse.wall (scale_of stock) stock l.plies
-  stands = laid-stands coarse-laws is.plies is.coarse
+  stands : StandsFor coarse (assembled coarse.calc (scale_of stock).q0 (items_of stock l.plies)) (scale_of stock) stock l.plies
+  stands = stands-for coarse-laws is.plies
 
   pub thick : pos 1 ≤ℤ l.h
   thick = let least = wall-thick stands in omega (arith, ints, least, is.thickness, stands.thickness)

@@ -33,6 +33,13 @@ impl<T: Copy> Finding<T> {
         matches!(self, Finding::Fails(_))
     }
 
+    /// Tells whether all meet what is asked of them.
+    pub(crate) fn is_clear(&self) -> bool
+        ensures { result ≡ by.is_clear self.now }
+    {
+        matches!(self, Finding::Clear)
+    }
+
     /// With what is found at later places.
     pub(crate) fn then(self, later: Finding<T>) -> Finding<T>
         ensures { result ≡ by.and_then self later }

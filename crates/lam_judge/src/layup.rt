@@ -1,4 +1,4 @@
-// The wall of a schedule, over both scales of fixed point.
+// The wall of a schedule: its plies, and its matrices over a scale of fixed point.
 
 ghost use Rattle.std.specs.Prelude.{◌≡◌, ℕ, ℤ, ◌≤◌, length, Some, slice_get};
 ghost use Rattle.lam_job.specs.Schedule.{items_of};
@@ -6,11 +6,9 @@ ghost use Rattle.lam_lamina.specs.inside.Table.{IsTableOf};
 ghost use Rattle.lam_stock.specs.Stock.{IsKnown};
 ghost use Rattle.lam_wall.specs.Faces.{faces};
 ghost use Rattle.lam_judge.specs.inside.Layups.{IsLaid, IsLayupOf};
-ghost use Rattle.lam_judge.specs.inside.Tables.{AreTablesOf};
 
-use crate::tables::Tables;
 use lam_lamina::Stiffnesses;
-use lam_number::{Enclosure, Fix};
+use lam_number::Enclosure;
 use lam_solve::Elimination;
 use lam_stock::{Stack, Stock};
 use lam_wall::{Wall, assemble_by, face, thickness};
@@ -38,7 +36,7 @@ impl<N: Enclosure> Laid<N> {
     }
 }
 
-/// What depends on a wall alone, made once for each load.
+/// What depends on the plies of a wall alone, whatever the scale, made once for each load.
 #[derive(Drop)]
 pub(crate) struct Layup {
     /// The plies that carry load.
@@ -47,16 +45,13 @@ pub(crate) struct Layup {
     pub(crate) h: i64,
     /// z of the faces, in half µm: of the wall's inner surface, and of each ply's outer face.
     pub(crate) faces: [i64; 65],
-    pub(crate) coarse: Laid<Fix<28>>,
-    pub(crate) fine: Laid<Fix<60>>,
 }
 
 impl Layup {
     /// Of these plies.
-    pub(crate) fn of(tables: &Tables, stock: &Stock, plies: Stack) -> Layup
+    pub(crate) fn of(stock: &Stock, plies: Stack) -> Layup
         requires some { 1 ≤ length plies }
         requires known { IsKnown stock.now plies }
-        requires tables { AreTablesOf stock.now tables.now }
         ensures plies { result.plies ≡ plies }
         ensures layup { IsLayupOf stock.now result }
     {
@@ -65,8 +60,6 @@ impl Layup {
         Layup {
             h: thickness(stock, &plies),
             faces: faces_of(stock, &plies),
-            coarse: Laid::of(&tables.coarse, stock, &plies),
-            fine: Laid::of(&tables.fine, stock, &plies),
             plies,
         }
     }

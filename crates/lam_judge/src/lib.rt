@@ -17,6 +17,8 @@ mod layup;
 mod loaded;
 // what is found at its places
 mod places;
+// what the first scale alone finds there
+mod coarse;
 // what is found under all cases and at all panels
 mod cases;
 // whether a schedule is fit for a panel

@@ -147,8 +147,8 @@ fn side_verdict(
     }
 }
 
-// over one kind of enclosures
-fn verdict_over<N: Enclosure>(
+/// The verdict over one kind of enclosures, at the strains of a face.
+pub(crate) fn verdict_over<N: Enclosure>(
     criterion: &Criterion<N>,
     at: &FaceStrain<N>,
     side: Side,

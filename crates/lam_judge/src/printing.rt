@@ -13,14 +13,14 @@ ghost use Rattle.lam_tsai.specs.inside.Halving.{ratio_by};
 ghost use Rattle.lam_tsai.specs.inside.Reach.{ReachCriterion};
 ghost use Rattle.lam_judge.specs.Judgements.{IsSchedule};
 ghost use Rattle.lam_judge.specs.Printed.{ArePrinted};
-ghost use Rattle.lam_judge.specs.inside.Layups.{IsLayupOf};
+ghost use Rattle.lam_judge.specs.inside.Layups.{IsLaid, IsLayupOf};
 ghost use Rattle.lam_judge.specs.inside.Loads.{IsWithin};
 ghost use Rattle.lam_judge.specs.inside.Ratios.{case_ratios, panel_ratio, printed};
 ghost use Rattle.lam_judge.specs.inside.Scales.{fine as fine_numbers};
 ghost use Rattle.lam_judge.specs.inside.Tables.{AreTablesOf};
 
 use crate::fitness::is_fit;
-use crate::layup::Layup;
+use crate::layup::{Laid, Layup};
 use crate::room::Room;
 use crate::tables::Tables;
 use lam_job::{Case, Job, Panel, resultants};
@@ -50,22 +50,30 @@ pub fn ratios_by(tables: &Tables, job: &Job, stock: &Stock, listed: &Stack, room
     ensures value { room.new ≡ printed stock.now job.now listed.now }
     ensures so { ArePrinted stock.now job.now listed.now room.new }
 {
-    let plies = wall_plies(job, listed);
-    let layup = Layup::of(tables, stock, plies);
+    let layup = Layup::of(stock, wall_plies(job, listed));
+    let fine = Laid::of(&tables.fine, stock, &layup.plies);
     room.start(layup.plies.items().len() as u8);
-    add_cases(tables, stock, &layup, job.cases.items(), room);
+    add_cases(tables, stock, &layup, &fine, job.cases.items(), room);
     if is_fit(job, stock, listed) {
         let scale = stock.scale();
         room.start_panels();
-        add_panels(&layup.fine.wall, &scale, job.panels.items(), room);
+        add_panels(&fine.wall, &scale, job.panels.items(), room);
     }
 }
 
 // the ratios under each case
-fn add_cases(tables: &Tables, stock: &Stock, layup: &Layup, cases: &[Case], room: &mut Room)
+fn add_cases(
+    tables: &Tables,
+    stock: &Stock,
+    layup: &Layup,
+    fine: &Laid<Fix<60>>,
+    cases: &[Case],
+    room: &mut Room,
+)
     requires few { length cases.now ≤ 16 }
     requires tables { AreTablesOf stock.now tables.now }
     requires layup { IsLayupOf stock.now layup.now }
+    requires fine { IsLaid fine_numbers stock.now layup.now.plies fine.now }
     requires range { All (λ c. LoadInRange (scale_of stock.now).floor layup.now.h (load_of c.kind)) cases.now }
     requires none { room.old.ratios ≡ [] }
     ensures { room.new ≡ record room.old {
@@ -73,14 +81,22 @@ fn add_cases(tables: &Tables, stock: &Stock, layup: &Layup, cases: &[Case], room
     } }
 {
     for case in cases {
-        add_case(tables, stock, layup, case, room);
+        add_case(tables, stock, layup, fine, case, room);
     }
 }
 
 // the ratios of each ply under a case
-fn add_case(tables: &Tables, stock: &Stock, layup: &Layup, case: &Case, room: &mut Room)
+fn add_case(
+    tables: &Tables,
+    stock: &Stock,
+    layup: &Layup,
+    fine: &Laid<Fix<60>>,
+    case: &Case,
+    room: &mut Room,
+)
     requires tables { AreTablesOf stock.now tables.now }
     requires layup { IsLayupOf stock.now layup.now }
+    requires fine { IsLaid fine_numbers stock.now layup.now.plies fine.now }
     requires range { LoadInRange (scale_of stock.now).floor layup.now.h (load_of case.now.kind) }
     requires room { length room.old.ratios + length layup.now.plies ≤ 1024 }
     ensures { room.new ≡ record room.old {
@@ -90,7 +106,7 @@ fn add_case(tables: &Tables, stock: &Stock, layup: &Layup, case: &Case, room: &m
 {
     let load = resultants(case);
     let scale = stock.scale();
-    let strains = solve_by(&layup.fine.elimination, &layup.fine.wall, &load, &scale);
+    let strains = solve_by(&fine.elimination, &fine.wall, &load, &scale);
     let plies = layup.plies.items();
     for k in 0..plies.len() {
         let criterion = &tables.criteria(plies[k]).fine;

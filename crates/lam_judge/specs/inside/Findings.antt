@@ -1,5 +1,5 @@
 -- What is found at some places, one after the other: the first that fails, else the first that straddles.
-use Rattle.std.specs.Prelude.{ℕ, suc, Bool, true, false, List, [], ◌∷◌}
+use Rattle.std.specs.Prelude.{◌≡◌, ⊤, ℕ, suc, Bool, true, false, List, [], ◌∷◌}
 use Rattle.lam_job.specs.JobData.{CaseData, PanelData}
 use Rattle.lam_job.specs.Wall.{Placed}
 use Rattle.lam_number.specs.declared.strength.Verdict.{Verdict}
@@ -29,11 +29,22 @@ module _ {T : Type 0} where
   and_then (Straddles at) (Fails other) = Fails other
   and_then (Straddles at) (Straddles other) = Straddles at
 
+  abbrev pub is_clear : Finding T → Bool
+  is_clear Clear = true
+  is_clear (Fails at) = false
+  is_clear (Straddles at) = false
+
   -- nothing that is found later matters
   abbrev pub is_settled : Finding T → Bool
   is_settled Clear = false
   is_settled (Fails at) = true
   is_settled (Straddles at) = false
+
+  -- what one test finds is what all tests find, where it does not straddle
+  abbrev pub Settles : (first all : Finding T) → Type 0
+  Settles Clear all = Clear ≡ all
+  Settles (Fails at) all = Fails at ≡ all
+  Settles (Straddles at) all = ⊤
 
 -- ---- the places of a case
 

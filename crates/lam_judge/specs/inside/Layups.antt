@@ -12,7 +12,6 @@ use Rattle.lam_wall.specs.inside.Formulas.{assembled}
 use Rattle.lam_solve.specs.inside.Elimination.{IsEliminationOf}
 use Rattle.lam_judge.specs.declared.layup.Laid.{Laid}
 use Rattle.lam_judge.specs.declared.layup.Layup.{Layup}
-use Rattle.lam_judge.specs.inside.Scales.{coarse, fine}
 
 -- the matrices of some plies of a catalogue, and their unknowns eliminated
 pub record IsLaid {A : Type 0} (n : Numbers A) (stock : List Item) (numbers : List ItemNo) (laid : Laid A) : Type 0 where
@@ -24,5 +23,3 @@ pub record IsLayupOf (stock : List Item) (l : Layup) : Type 0 where
   pub plies : ArePlies (scale_of stock) stock l.plies
   pub thickness : l.h ≡ wall_thickness (items_of stock l.plies)
   pub faces : (k : ℕ) (z : ℤ) → slice_get (faces_of (items_of stock l.plies)) k ≡ Some z → slice_get l.faces k ≡ Some z
-  pub coarse : IsLaid coarse stock l.plies l.coarse
-  pub fine : IsLaid fine stock l.plies l.fine

@@ -13,6 +13,7 @@ use Rattle.lam_solve.specs.Solutions.{AreShort}
 use Rattle.lam_solve.specs.inside.Formulas.{at_face}
 use Rattle.lam_tsai.specs.declared.criterion.Criterion.{Criterion}
 use Rattle.lam_tsai.specs.declared.place.FaceSide.{FaceSide}
+use Rattle.lam_tsai.specs.declared.place.FaceSide.TheVariants.{Inner, Outer}
 use Rattle.lam_tsai.specs.declared.place.Side.{Side}
 use Rattle.lam_tsai.specs.Levels.{verdict_of}
 use Rattle.lam_tsai.specs.inside.Reach.{ReachCriterion}
@@ -58,6 +59,11 @@ pub record IsWithin (h z : ℤ) : Type 0 where
 -- the verdict at the strains of a face
 abbrev pub verdict_by : {A : Type 0} → Numbers A → Criterion A → FaceStrain A → Side → ℤ → Verdict
 verdict_by n c at side factor = verdict_of n (level_by n c side at factor)
+
+-- the strains at a face of two
+abbrev pub strain_by : {A : Type 0} → (inner outer : FaceStrain A) → FaceSide → FaceStrain A
+strain_by inner outer Inner = inner
+strain_by inner outer Outer = outer
 
 -- over both scales, by what was made before
 unfoldable pub loaded_verdict : Criteria → Loaded → ℤ → Side → Verdict

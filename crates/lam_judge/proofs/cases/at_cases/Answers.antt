@@ -23,6 +23,8 @@ of-loaded-requires c =
     let scale = scale_of c.args.stock.now in
     record {
       layup = c.requires.layup;
+      coarse = c.requires.coarse;
+      fine = c.requires.fine;
       range = subst (λ (x : CaseData). LoadInRange scale.floor c.args.layup.now.h (load_of x.kind)) (sym d.is)
           (All-get_or (λ (x : CaseData). LoadInRange scale.floor c.args.layup.now.h (load_of x.kind)) c.args.cases.now c.loop-number.number d.result c.loop-number-test.true c.requires.range);
     }

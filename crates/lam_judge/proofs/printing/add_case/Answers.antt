@@ -24,7 +24,7 @@ abbrev with_ratios : Printed → List ℕ → Printed
 with_ratios p ratios = record p { ratios = ratios }
 
 pub solve_by-strains-requires-clause-wall : goal.solve_by-strains-requires-clause-wall
-solve_by-strains-requires-clause-wall c = laid-wall fine-laws c.requires.layup.plies c.requires.layup.fine c.scale-scale.result c.scale-scale.ensures.value
+solve_by-strains-requires-clause-wall c = laid-wall fine-laws c.requires.layup.plies c.requires.fine c.scale-scale.result c.scale-scale.ensures.value
 
 pub loop-k-init : goal.loop-k-init
 loop-k-init c = ap (with_ratios c.args.room.now) (sym (append-nil c.args.room.now.ratios))
@@ -65,7 +65,7 @@ loop-k-preserved c =
     let before = c.args.room.now.ratios in
     let h = to_z-of_z w64 c.args.layup.now.h (thickness-fits is) ∙ is.thickness in
     let at = ap (λ plies. slice_get plies k) (sym c.items-plies.ensures.items) ∙ slice_get-get_or c.items-plies.result.now k first_no c.loop-k-test.true in
-    let strains = c.solve_by-strains.ensures.value ∙ (λ i. solution fine (is.fine.wall i) (c.resultants-load.ensures.value i) (c.scale-scale.ensures.value i)) in
+    let strains = c.solve_by-strains.ensures.value ∙ (λ i. solution fine (c.requires.fine.wall i) (c.resultants-load.ensures.value i) (c.scale-scale.ensures.value i)) in
     let p = placed is k _ at in
     let there = placed-is is k _ at in
     let ratio : c.ratio_between-ratio.result ≡ f p =

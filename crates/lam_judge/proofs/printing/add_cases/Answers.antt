@@ -45,6 +45,7 @@ add_case-requires c =
     record {
       tables = c.requires.tables;
       layup = c.requires.layup;
+      fine = c.requires.fine;
       range = subst InRange (sym d.is) (All-get_or InRange c.args.cases.now k d.result c.loop-case-test.true c.requires.range);
       room = subst (λ n. n + length plies ≤ 1024) (sym (is ∙ ap (λ n. n * length plies) front)) most;
     }

@@ -7,10 +7,10 @@ use Rattle.lam_judge.proofs.WallsLaid.{coarse-laws, fine-laws, laid-wall, thick,
 use Rattle.lam_judge.proofs.loaded.Loaded.of.Goals as goal
 
 pub solve_by-requires-clause-wall : goal.solve_by-requires-clause-wall
-solve_by-requires-clause-wall c = laid-wall coarse-laws c.requires.layup.plies c.requires.layup.coarse c.scale-scale.result c.scale-scale.ensures.value
+solve_by-requires-clause-wall c = laid-wall coarse-laws c.requires.layup.plies c.requires.coarse c.scale-scale.result c.scale-scale.ensures.value
 
 pub solve_by-requires-2-clause-wall : goal.solve_by-requires-2-clause-wall
-solve_by-requires-2-clause-wall c = laid-wall fine-laws c.requires.layup.plies c.requires.layup.fine c.scale-scale.result c.scale-scale.ensures.value
+solve_by-requires-2-clause-wall c = laid-wall fine-laws c.requires.layup.plies c.requires.fine c.scale-scale.result c.scale-scale.ensures.value
 
 pub returns : goal.returns
 returns c =
@@ -30,6 +30,6 @@ returns c =
       };
       case_is = refl;
       factor = factor ∙ ap (λ x. x.factor) c.case.view_is;
-      coarse_is = c.solve_by.ensures.value ∙ (λ i. solution coarse (is.coarse.wall i) (c.resultants-load.ensures.value i) (c.scale-scale.ensures.value i));
-      fine_is = c.solve_by-2.ensures.value ∙ (λ i. solution fine (is.fine.wall i) (c.resultants-load.ensures.value i) (c.scale-scale.ensures.value i));
+      coarse_is = c.solve_by.ensures.value ∙ (λ i. solution coarse (c.requires.coarse.wall i) (c.resultants-load.ensures.value i) (c.scale-scale.ensures.value i));
+      fine_is = c.solve_by-2.ensures.value ∙ (λ i. solution fine (c.requires.fine.wall i) (c.resultants-load.ensures.value i) (c.scale-scale.ensures.value i));
     }
