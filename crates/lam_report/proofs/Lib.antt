@@ -24,3 +24,7 @@ pub mod GrammarLaws
 pub mod FaultLaws
 -- what a reader of a report answers
 pub mod ReadLaws
+-- how many bytes the text of a report takes at most
+pub mod Lengths
+-- a text that has room in a sink in memory is written whole
+pub mod RoomLaws

@@ -13,8 +13,13 @@ mod steps; // the same, taken one after the other
 mod head; // what stands before the tree, read
 mod fault; // why a report is refused
 mod read; // a report, read
+mod laws; // a report is short, and bytes spell one at most
 
 pub use analysis::write_analysis;
 pub use fault::{ReportError, ReportFault};
+pub use laws::{reports_are_short, reports_are_spelled_once};
 pub use read::{MOST_BYTES, read_report, scan_report};
 pub use write::write_report;
+
+#[cfg(test)]
+mod tests;
