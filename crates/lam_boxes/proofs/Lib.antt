@@ -17,3 +17,5 @@ mod FixedPlies  -- the sum over fixed plies, one ply after the other
 mod OpenPlies  -- what can be at the open places, one item after the other
 mod FailingSteps  -- the first place that fails, ply by ply
 mod BoxPlies  -- the criterion of a listed ply, by a table
+mod Shapes  -- what all completions have in common, as it is computed
+mod BoxedCases  -- the box of a case of a job

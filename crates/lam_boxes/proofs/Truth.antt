@@ -286,7 +286,7 @@ module _ (stock : List Item) (job : JobData) (p : Partial) (is : IsStock stock (
           (λ listed comp range. subst (λ o. IsSomeAnd o (λ case. ¬ RatioAt stock job listed (place_of at) (whole case.factor))) (sym case-there) (fails-in listed comp))
 
     by-box : (more : length p.prefix < half job p.n) (o : Option (FaceStrain (Fix 60))) → box_under (fix_numbers 60) (scale_of stock) (shape_of (fix_numbers 60) stock job p) (load_of c.kind) ≡ o
-        → failing_in (fix_numbers 60) stock job p k c.factor o ≡ Some at → AllFailAt stock job p at
+        → failing_in (fix_numbers 60) stock p.prefix k c.factor o ≡ Some at → AllFailAt stock job p at
     by-box more None e h = absurd (cc)
     by-box more (Some box) e h = all-fail more box e (found-at k _ 0 (items_of stock p.prefix) at h)
 

@@ -15,5 +15,11 @@ mod extents; // how thick the items of a catalogue are
 mod tables; // what is made once for a catalogue
 mod extensions; // the stiffness of the fixed plies, and of what can be at the open places
 mod places; // the first place that fails in a box
+mod shape; // what all completions have in common
+mod cases; // the boxes of the cases of a job
 
+pub use cases::{first_box, is_boxed, may_box, strain_box, strain_box_by};
 pub use tables::BoxTables;
+
+#[cfg(test)]
+mod tests;

@@ -7,6 +7,7 @@ use Rattle.lam_number.specs.declared.strength.Verdict.{Verdict}
 use Rattle.lam_number.specs.declared.strength.Verdict.TheVariants.{Meets, Fails, Straddles}
 use Rattle.lam_number.specs.inside.FixNumbers.{fix_numbers}
 use Rattle.lam_stock.specs.declared.item.Item.{Item}
+use Rattle.lam_stock.specs.declared.item.ItemNo.{ItemNo}
 use Rattle.lam_stock.specs.declared.item.Kind.{Kind}
 use Rattle.lam_stock.specs.declared.item.Kind.TheVariants.{Ply, Pair}
 use Rattle.lam_stock.specs.declared.scale.Scale.{Scale}
@@ -109,15 +110,15 @@ is_open job p = not (length p.prefix == half job p.n) && not (length p.prefix ==
 
 module _ {A : Type 0} (n : Numbers A) where
   -- in a box, at the plies of the prefix
-  abbrev pub failing_in : List Item → JobData → Partial → (case : ℕ) → (factor : ℤ) → Option (FaceStrain A) → Option Place
-  failing_in stock job p case factor None = None
-  failing_in stock job p case factor (Some at) =
-      first_failing case (λ i. failing_side n (criterion n (scale_of stock) i) at factor) 0 (items_of stock p.prefix)
+  abbrev pub failing_in : List Item → (prefix : List ItemNo) → (case : ℕ) → (factor : ℤ) → Option (FaceStrain A) → Option Place
+  failing_in stock prefix case factor None = None
+  failing_in stock prefix case factor (Some at) =
+      first_failing case (λ i. failing_side n (criterion n (scale_of stock) i) at factor) 0 (items_of stock prefix)
 
   abbrev pub boxed_under : List Item → JobData → Partial → (case : ℕ) → CaseData → Option Place
   boxed_under stock job p case c =
       if is_open job p
-      then failing_in stock job p case c.factor (box_under n (scale_of stock) (shape_of n stock job p) (load_of c.kind))
+      then failing_in stock p.prefix case c.factor (box_under n (scale_of stock) (shape_of n stock job p) (load_of c.kind))
       else None
 
   abbrev pub boxed_at : List Item → JobData → Partial → (case : ℕ) → Option CaseData → Option Place
