@@ -1,6 +1,6 @@
 -- What a test of an option says.
 use Rattle.std.proofs.Common.{◌≡◌, refl, sym, ◌∙◌, Bool, true, false, Option, Some, None, is_some, not}
-use Rattle.std.specs.Prelude.{IsNone, IsTrue, IsSomeAnd}
+use Rattle.std.specs.Prelude.{IsNone, IsTrue}
 
 pub one_is : {X : Type 0} (o : Option X) (b : Bool) → b ≡ is_some o → b ≡ true → (x : X) × (o ≡ Some x)
 one_is (Some x) b is yes_it = (x, refl)
@@ -21,8 +21,3 @@ pub tests_none : {X : Type 0} (o : Option X) (b : Bool) → is_some o ≡ not b 
 tests_none o true is = ((λ it. is), (λ none. refl))
 tests_none o false is =
     ((λ it. absurd (let n : false ≡ true = it in cc)), (λ none. absurd (let n : true ≡ false = sym is ∙ none in cc)))
-
--- where nothing is found, no place is
-pub no_place : {X Y : Type 0} (o : Option X) (P : X → Type 0) (y : Y) → IsSomeAnd o (λ x. P x × (◌≡◌ {A = Option Y} None (Some y))) → ⊥
-no_place None P y is = is
-no_place (Some x) P y is = let n : None ≡ Some y = is.1 in cc

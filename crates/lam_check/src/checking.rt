@@ -24,6 +24,7 @@ use crate::fault::{CheckCause, CheckFault};
 use crate::lines::{Lines, Nodes};
 use crate::tree::read_tree;
 use lam_bounds::Bounds;
+use lam_boxes::BoxTables;
 use lam_job::Job;
 use lam_judge::{Room, Tables};
 use lam_stock::Stock;
@@ -158,11 +159,13 @@ fn find<L: Lines>(
         return Err(fault);
     }
     let bounds = Bounds::of(job, stock);
+    let boxes = BoxTables::of(stock);
     let design = Design {
         job,
         stock,
         tables: &tables,
         bounds: &bounds,
+        boxes: &boxes,
     };
     let nodes_line = near_line + near_lines(claims.answer);
     let best = best_cost(claims.best);

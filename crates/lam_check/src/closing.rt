@@ -11,6 +11,7 @@ ghost use Rattle.lam_tree.specs.Closings.{ClosesByRule, IsSound, Reaches};
 ghost use Rattle.lam_tree.specs.ForceBalance.{IsShort, net_cost as net_spec};
 ghost use Rattle.lam_tree.specs.Words.{IsTrueBy, NoneIsCheaper, NoneMayBeBuilt};
 ghost use Rattle.lam_bounds.specs.inside.Computed.{capacity_value};
+ghost use Rattle.lam_boxes.specs.inside.Tables.{AreBoxTablesOf};
 ghost use Rattle.lam_answers.specs.inside.Computed.{computed};
 ghost use Rattle.lam_answers.specs.Straddling.{Straddles};
 
@@ -18,6 +19,7 @@ use crate::costs::reaches;
 use crate::judging::is_judged_full;
 use crate::splitting::is_full;
 use lam_bounds::{cost_floor, net_cost, net_short};
+use lam_boxes::{BoxTables, is_boxed};
 use lam_job::Job;
 use lam_judge::Tables;
 use lam_rules::{Partial, RuleNo, breaks, complete, visible};
@@ -26,17 +28,18 @@ use lam_support::Weight;
 use lam_tree::Word;
 
 /// Tells whether the word of a leaf closes a partial schedule, with the cost of the best schedule.
-/// No box of strains is sought, so that none closes one.
 pub fn closes(
     job: &Job,
     stock: &Stock,
     tables: &Tables,
+    boxes: &BoxTables,
     best: Option<u64>,
     partial: &Partial,
     word: Word,
 ) -> bool
     requires job_for { IsJobFor stock.now job.now }
     requires tables { AreTablesOf stock.now tables.now }
+    requires boxes { AreBoxTablesOf stock.now boxes.now }
     requires partial { IsPartial stock.now job.now partial.now }
     requires short { partial.now.n ≤ job.now.limit }
     requires leaf { word ≢ Word.Split }
@@ -51,7 +54,7 @@ pub fn closes(
         Word::Rule(rule) => closes_by_rule(job, stock, partial, rule),
         Word::NetShort(case, w) => is_short(job, stock, partial, case, &w),
         Word::NetCost(case, w) => is_dear(job, stock, best, partial, case, &w),
-        Word::Box(_) => false,
+        Word::Box(at) => is_boxed(job, stock, boxes, partial, at),
         Word::Range(case) => is_judged_full(job, stock, tables, partial, Word::Range(case)),
         Word::Fails(at) => is_judged_full(job, stock, tables, partial, Word::Fails(at)),
         Word::Buckles(panel) => is_judged_full(job, stock, tables, partial, Word::Buckles(panel)),

@@ -7,6 +7,7 @@ use crate::costs::schedule_cost;
 use crate::problem::Problem;
 use crate::splitting::may_split;
 use lam_bounds::Bounds;
+use lam_boxes::BoxTables;
 use lam_job::Job;
 use lam_judge::Tables;
 use lam_rules::{Partial, complete, half};
@@ -21,6 +22,7 @@ pub struct Design<'a> {
     pub stock: &'a Stock,
     pub tables: &'a Tables,
     pub bounds: &'a Bounds,
+    pub boxes: &'a BoxTables,
 }
 
 impl<'a> Model for Design<'a> {
@@ -31,7 +33,7 @@ impl<'a> Model for Design<'a> {
 
     ghost view = { λ d. record { stock = d.stock.now; job = d.job.now } };
 
-    ghost invariant = { λ d. IsReady d.stock.now d.job.now d.tables.now d.bounds.now };
+    ghost invariant = { λ d. IsReady d.stock.now d.job.now d.tables.now d.bounds.now d.boxes.now };
 }
 
 impl Problem for Design<'_> {
@@ -66,11 +68,26 @@ impl Problem for Design<'_> {
     }
 
     fn may_split(&self, incumbent: Option<u64>, partial: &Partial) -> bool {
-        may_split(self.job, self.stock, self.bounds, incumbent, partial)
+        may_split(
+            self.job,
+            self.stock,
+            self.bounds,
+            self.boxes,
+            incumbent,
+            partial,
+        )
     }
 
     fn closes(&self, best: Option<u64>, partial: &Partial, word: Word) -> bool {
-        closes(self.job, self.stock, self.tables, best, partial, word)
+        closes(
+            self.job,
+            self.stock,
+            self.tables,
+            self.boxes,
+            best,
+            partial,
+            word,
+        )
     }
 }
 

@@ -1,5 +1,6 @@
-//! The checker of reports. It reads a search tree line by line, computes anew what each line says,
-//! and shares nothing with the search.
+//! The checker of reports. It reads a search tree line by line, and computes anew what each line
+//! says. It stands on the same rules, bounds, boxes and judgement as the search, and shares no code
+//! with its walk.
 #![tactic(auto)]
 
 mod fault; // why a report is not accepted

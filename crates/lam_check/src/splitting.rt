@@ -12,25 +12,29 @@ ghost use Rattle.lam_tree.specs.TriedWeights.{tried_weights};
 ghost use Rattle.lam_bounds.specs.inside.Computed.{capacity_value};
 ghost use Rattle.lam_bounds.specs.inside.RunningSums.{AreSumsOf};
 ghost use Rattle.lam_bounds.specs.inside.Tables.{AreBoundsOf};
+ghost use Rattle.lam_boxes.specs.inside.Tables.{AreBoxTablesOf};
 ghost use Rattle.lam_answers.specs.inside.Computed.{computed};
 
 use crate::costs::is_below;
 use lam_bounds::{Bounds, Fixed, cost_floor_at, first_dear, first_short};
+use lam_boxes::{BoxTables, first_box};
 use lam_job::Job;
 use lam_rules::{Partial, half, visible};
 use lam_stock::Stock;
 
-/// Tells whether a search may split a partial schedule: that is lawful with the incumbent, and no
-/// balance of forces closes it.
+/// Tells whether a search may split a partial schedule: that is lawful with the incumbent, and
+/// neither a balance of forces nor a box of strains closes it.
 pub fn may_split(
     job: &Job,
     stock: &Stock,
     bounds: &Bounds,
+    boxes: &BoxTables,
     incumbent: Option<u64>,
     partial: &Partial,
 ) -> bool
     requires job_for { IsJobFor stock.now job.now }
     requires bounds { AreBoundsOf stock.now job.now bounds.now }
+    requires boxes { AreBoxTablesOf stock.now boxes.now }
     requires partial { IsPartial stock.now job.now partial.now }
     ensures { IsTrue result
         ↔ MaySplit stock.now job.now (computed stock.now job.now) incumbent partial.now }
@@ -42,7 +46,10 @@ pub fn may_split(
     if first_short(job, stock, bounds, &fixed, partial).is_some() {
         return false;
     }
-    is_cheap(job, stock, bounds, &fixed, incumbent, partial)
+    if !is_cheap(job, stock, bounds, &fixed, incumbent, partial) {
+        return false;
+    }
+    first_box(job, stock, boxes, partial).is_none()
 }
 
 // tells whether a split is lawful

@@ -5,15 +5,13 @@ ghost use Rattle.lam_job.specs.JobData.{CaseData};
 ghost use Rattle.lam_job.specs.Partial.{IsFull, completion, cost_floor as floor_spec};
 ghost use Rattle.lam_job.specs.Schedule.{cost_of};
 ghost use Rattle.lam_rules.specs.Conditions.{IsPartial};
-ghost use Rattle.lam_tree.specs.Closings.{IsBelow, Reaches, MayBox};
+ghost use Rattle.lam_tree.specs.Closings.{IsBelow, Reaches};
 ghost use Rattle.lam_tree.specs.ForceBalance.{IsShort, net_cost as net_spec};
 ghost use Rattle.lam_tree.specs.TriedWeights.{tried_weights as tried_spec};
-ghost use Rattle.lam_tree.specs.ReportRanges.{IsPlace};
 ghost use Rattle.lam_tree.specs.declared.limits.TheConstants.{MOST_COST};
-ghost use Rattle.lam_tree.specs.Words.{NoneMayBeBuilt, NoneIsCheaper, AllFailAt};
+ghost use Rattle.lam_tree.specs.Words.{NoneMayBeBuilt, NoneIsCheaper};
 ghost use Rattle.lam_bounds.specs.inside.RunningSums.{AreSumsOf};
 ghost use Rattle.lam_bounds.specs.inside.Computed.{capacity_value};
-ghost use Rattle.lam_answers.specs.inside.Computed.{computed};
 ghost use Rattle.lam_search.specs.inside.Held.{IsHeld};
 ghost use Rattle.lam_search.specs.inside.Hints.{AreHints};
 ghost use Rattle.lam_search.specs.inside.Ready.{IsReady, IsSeen, basis_at};
@@ -22,7 +20,8 @@ use crate::design::Design;
 use crate::hints::Hints;
 use lam_answers::word_of;
 use lam_bounds::{Fixed, cost_floor_at, first_dear, first_short};
-use lam_judge::{Place, judge_by};
+use lam_boxes::first_box;
+use lam_judge::judge_by;
 use lam_rules::{Partial, RuleNo, complete, half};
 use lam_support::Weight;
 use lam_tree::Word;
@@ -58,7 +57,7 @@ pub fn word_at(
     if let Some((case, w)) = dear_at(design, fixed, partial, incumbent, hints) {
         return Word::NetCost(case, w);
     }
-    if let Some(at) = first_box(design, partial) {
+    if let Some(at) = first_box(design.job, design.stock, design.boxes, partial) {
         return Word::Box(at);
     }
     if is_full(design, partial) {
@@ -188,21 +187,6 @@ fn is_limit(limit: Option<u64>, cost: u64) -> bool
         Some(known) => known == cost,
         None => false,
     }
-}
-
-// the first case under which all completions in range fail at a place, and that place. No box of
-// strains is sought yet, so that none is found
-fn first_box(design: &Design, partial: &Partial) -> Option<Place>
-    ensures none { let stock = design.now.stock.now in let job = design.now.job.now in
-        IsNone result → (k : ℕ) (c : CaseData) → slice_get job.cases k ≡ Some c → MayBox job c
-        → (computed stock job).boxed partial.now k ≡ None }
-    ensures some { let stock = design.now.stock.now in let job = design.now.job.now in
-        IfSome result (λ at. IsSomeAnd (slice_get job.cases at.case) (λ c. MayBox job c
-        × ((computed stock job).boxed partial.now at.case ≡ Some at))) }
-    ensures so { IfSome result (AllFailAt design.now.stock.now design.now.job.now partial.now) }
-    ensures range { IfSome result IsPlace }
-{
-    None
 }
 
 // the word of a full partial schedule, as its completion is judged

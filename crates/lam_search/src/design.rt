@@ -1,6 +1,7 @@
 // A catalogue and a job, with what is made once for them.
 
 use lam_bounds::Bounds;
+use lam_boxes::BoxTables;
 use lam_job::Job;
 use lam_judge::Tables;
 use lam_stock::Stock;
@@ -12,4 +13,5 @@ pub struct Design<'a> {
     pub stock: &'a Stock,
     pub tables: &'a Tables,
     pub bounds: &'a Bounds,
+    pub boxes: &'a BoxTables,
 }

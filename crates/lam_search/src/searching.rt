@@ -21,6 +21,7 @@ use crate::lengths::walk_lengths;
 use crate::seeking::{Sight, seek_all};
 use crate::state::{Flow, State};
 use lam_bounds::Bounds;
+use lam_boxes::BoxTables;
 use lam_guide::Guide;
 use lam_job::Job;
 use lam_judge::Tables;
@@ -76,11 +77,13 @@ pub fn search(
 {
     let tables = Tables::of(stock);
     let bounds = Bounds::of(job, stock);
+    let boxes = BoxTables::of(stock);
     let design = Design {
         job,
         stock,
         tables: &tables,
         bounds: &bounds,
+        boxes: &boxes,
     };
     search_in(alloc, &design, budget, guide)
 }

@@ -9,6 +9,7 @@ use Rattle.lam_judge.specs.inside.Tables.{AreTablesOf}
 use Rattle.lam_bounds.specs.declared.fixed.Fixed.{Fixed}
 use Rattle.lam_bounds.specs.inside.Tables.{AreBoundsOf}
 use Rattle.lam_bounds.specs.inside.RunningSums.{AreSumsOf}
+use Rattle.lam_boxes.specs.inside.Tables.{AreBoxTablesOf}
 use Rattle.lam_rules.specs.declared.rule.RuleNo.{RuleNo}
 use Rattle.lam_rules.specs.Conditions.{IsPartial}
 use Rattle.lam_rules.specs.Growing.{Grown}
@@ -20,11 +21,12 @@ use Rattle.lam_search.specs.inside.Here.{Basis, basis_of}
 abbrev pub basis_at : Design → Basis
 basis_at d = basis_of d.stock.now d.job.now
 
--- the job is one of the catalogue, and the tables and bounds are theirs
+-- the job is one of the catalogue, and what is made once is theirs
 pub record IsReady (d : Design) : Type 0 where
   pub job_for : IsJobFor d.stock.now d.job.now
   pub are_tables : AreTablesOf d.stock.now d.tables.now
   pub are_bounds : AreBoundsOf d.stock.now d.job.now d.bounds.now
+  pub are_boxes : AreBoxTablesOf d.stock.now d.boxes.now
 
 -- a walk is at a partial schedule of a length that the job allows
 pub record IsAt (d : Design) (growing : Grown) (fixed : Fixed) : Type 0 where

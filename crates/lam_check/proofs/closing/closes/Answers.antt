@@ -1,9 +1,7 @@
-use Rattle.std.proofs.Common.{◌≡◌, sym, subst, false, true, slice_get}
-use Rattle.lam_tree.specs.Closings.{IsSound, MayBox}
+use Rattle.std.proofs.Common.{sym, subst}
 use Rattle.lam_tree.specs.Words.{IsTrueBy}
 use Rattle.lam_answers.specs.inside.Computed.{computed}
 use Rattle.lam_answers.specs.Straddling.{Straddles}
-use Rattle.lam_check.proofs.Options.{no_place}
 use Rattle.lam_check.proofs.closing.closes.Goals as goal
 
 pub returns-in-Range-clause-so : goal.returns-in-Range-clause-so
@@ -25,10 +23,3 @@ pub returns-in-Admissible-clause-so : goal.returns-in-Admissible-clause-so
 returns-in-Admissible-clause-so c = λ it.
     subst (IsTrueBy c.args.stock.now c.args.job.now (Straddles (computed c.args.stock.now c.args.job.now)) c.args.best c.args.partial.now) (sym c.in-Admissible.is)
     (c.is_judged_full-in-Admissible.ensures.so c.args.best it)
-
-pub returns-in-Box-clause-value : goal.returns-in-Box-clause-value
-returns-in-Box-clause-value c = λ incumbent. (
-  (λ it. absurd (let n : false ≡ true = it in cc)),
-  (λ sound. absurd (no_place (slice_get c.args.job.now.cases c.in-Box.field-0.case) (MayBox c.args.job.now) c.in-Box.field-0
-      (subst (IsSound c.args.stock.now c.args.job.now (computed c.args.stock.now c.args.job.now) c.args.best incumbent c.args.partial.now) c.in-Box.is sound))),
-)

@@ -1,9 +1,22 @@
-use Rattle.std.proofs.Common.{ap, subst, ◌∙◌}
+use Rattle.std.proofs.Common.{ap, subst, ◌∙◌, arith}
 use Rattle.lam_job.proofs.Completions.{completes_full}
 use Rattle.lam_judge.specs.Judgements.{IsSaid}
 use Rattle.lam_judge.specs.inside.Judged.{judged}
 use Rattle.lam_search.proofs.JudgedWords.{held-judged}
 use Rattle.lam_search.proofs.closings.judged_at.Goals as goal
+
+pub judge_by-requires-clause-schedule : goal.judge_by-requires-clause-schedule
+judge_by-requires-clause-schedule c =
+    let part = c.requires.partial in
+    let few = part.few in
+    let completes = c.complete-listed.ensures.completes c.args.design.now.stock.now part.some c.requires.short part.known in
+    let long = completes.long in
+    record {
+      job_for = c.requires.ready.job_for;
+      some = completes.sequence.some;
+      few = omega (arith, long, few);
+      known = completes.sequence.known;
+    }
 
 pub returns : goal.returns
 returns c =

@@ -113,7 +113,7 @@ returns c =
         cases = λ k case is. record {
           carried = c.in_default-short_at.ensures.none refl k case is;
           cheap = c.in_default-dear_at.ensures.none refl k case is;
-          unboxed = λ may. refl;
+          unboxed = c.in_default-first_box.ensures.none refl k case is;
         };
       };
       so = tt;

@@ -11,7 +11,7 @@ follows P Q (Ok f) so found = so f found
 follows P Q (Err e) so found = tt
 
 pub search_in-requires-clause-ready : goal.search_in-requires-clause-ready
-search_in-requires-clause-ready g c = record { job_for = c.requires.job_for; are_tables = c.of-tables.ensures; are_bounds = c.of-bounds.ensures }
+search_in-requires-clause-ready g c = record { job_for = c.requires.job_for; are_tables = c.of-tables.ensures; are_bounds = c.of-bounds.ensures; are_boxes = c.of-boxes.ensures }
 
 pub returns-clause-accepted : goal.returns-clause-accepted
 returns-clause-accepted g c =
