@@ -1,4 +1,4 @@
--- The number of nodes that words name is one that a search may be given.
+-- The number of nodes that words name is one that a search may be given, and that of a sample one that there is.
 use Rattle.std.proofs.Common.{◌≡◌, ℕ, ◌+◌, ◌*◌, ◌≤◌, Bool, true, false, nat_le, ◌&&◌, List, [], ◌∷◌, Option, Some, None, Result, Ok, Err, refl, subst, le_trans, arith}
 use Rattle.std.specs.Prelude.{option_and_then, option_map, bytes_eq, codes, IfOk, if◌then◌else◌}
 use Rattle.std.specs.Char.{digit_value}
@@ -14,7 +14,7 @@ use Rattle.lam_words.specs.Numbers.{at_most, begins_above_zero, number_to}
 use Rattle.lam_words.specs.Reading.{OrderWords, design, analyse, check, sample, guide_of, nodes_of, search_of, sample_order, without_options, order_of_texts, order_of_sorted, reading}
 use Rattle.lam_words.specs.Sorting.{Sorted, sorted_words}
 use Rattle.lam_words.specs.Spelled.{spelled}
-use Rattle.laminate.specs.inside.Budgets.{HasBudget, IsBudget, ReadsBudget}
+use Rattle.laminate.specs.inside.Budgets.{HasBudget, IsBudget, IsNumber, ReadsBudget}
 
 -- ---- a number that is written
 
@@ -51,6 +51,13 @@ written word n e =
     let some : 1 ≤ digits_value 10 word = value_above_zero word (both (begins_above_zero word) (all_ascii_digits word) digits).0 in
     subst IsBudget (same_Some (digits_value 10 word) n same) (record { some = some; most = grind (arith, nat_tests) })
 
+sample_number : (word : List ℕ) (n : ℕ) → number_to MOST_NUMBER word ≡ Some n → IsNumber n
+sample_number word n e =
+    let (digits, value) = chosen (begins_above_zero word && all_ascii_digits word) (at_most MOST_NUMBER (digits_value 10 word)) n e in
+    let (few, same) = chosen (nat_le (digits_value 10 word) MOST_NUMBER) (Some (digits_value 10 word)) n value in
+    let some : 1 ≤ digits_value 10 word = value_above_zero word (both (begins_above_zero word) (all_ascii_digits word) digits).0 in
+    subst IsNumber (same_Some (digits_value 10 word) n same) (record { some = some; most = grind (arith, nat_tests) })
+
 -- ---- the options of a search
 
 named : (word : Option (List ℕ)) (n : ℕ) → nodes_of word ≡ Some n → IsBudget n
@@ -77,14 +84,14 @@ designing job catalogue (Some guide) (Some n) within o e =
     subst HasBudget (same_Some (design job catalogue (record { guide = guide; nodes = n })) o e) (within n refl)
 
 sampling : (number : Option ℕ) (guide : Option GuideName) (nodes : Option ℕ) → ((n : ℕ) → nodes ≡ Some n → IsBudget n)
-    → Budgeted (sample_order number (search_of guide nodes))
-sampling None None nodes within o e = absurd (none-some o e)
-sampling None (Some guide) None within o e = absurd (none-some o e)
-sampling None (Some guide) (Some n) within o e = absurd (none-some o e)
-sampling (Some number) None nodes within o e = absurd (none-some o e)
-sampling (Some number) (Some guide) None within o e = absurd (none-some o e)
-sampling (Some number) (Some guide) (Some n) within o e =
-    subst HasBudget (same_Some (sample number (record { guide = guide; nodes = n })) o e) (within n refl)
+    → ((n : ℕ) → number ≡ Some n → IsNumber n) → Budgeted (sample_order number (search_of guide nodes))
+sampling None None nodes within known o e = absurd (none-some o e)
+sampling None (Some guide) None within known o e = absurd (none-some o e)
+sampling None (Some guide) (Some n) within known o e = absurd (none-some o e)
+sampling (Some number) None nodes within known o e = absurd (none-some o e)
+sampling (Some number) (Some guide) None within known o e = absurd (none-some o e)
+sampling (Some number) (Some guide) (Some n) within known o e =
+    subst HasBudget (same_Some (sample number (record { guide = guide; nodes = n })) o e) (within n refl, known number refl)
 
 plain : (guide nodes : Option (List ℕ)) (given : OrderWords) → HasBudget given → Budgeted (without_options guide nodes given)
 plain None None given has o e = subst HasBudget (same_Some given o e) has
@@ -96,7 +103,7 @@ of_texts [] guide nodes = nothing
 of_texts (mode ∷ []) guide nodes = nothing
 of_texts (mode ∷ number ∷ []) guide nodes =
     either (bytes_eq mode (codes "sample")) _ None
-    (sampling (number_to MOST_NUMBER number) (guide_of guide) (nodes_of nodes) (named nodes)) nothing
+    (sampling (number_to MOST_NUMBER number) (guide_of guide) (nodes_of nodes) (named nodes) (sample_number number)) nothing
 of_texts (mode ∷ job ∷ catalogue ∷ []) guide nodes =
     either (bytes_eq mode (codes "design")) _ None
     (designing job catalogue (guide_of guide) (nodes_of nodes) (named nodes)) nothing

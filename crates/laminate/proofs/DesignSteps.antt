@@ -62,7 +62,7 @@ found_design stock job nodes found ratios panels accepted promise grammar enough
 -- ---- from a design to its ending
 
 -- an answer is due with its status
-due_by : (before after : FilesSeen) (o : OrderWords) (given : Answer) (text : List ℕ) → Answers before o (status_of given) text
+pub due_by : (before after : FilesSeen) (o : OrderWords) (given : Answer) (text : List ℕ) → Answers before o (status_of given) text
     → Due before after (Some o) (status_of given) text
 due_by before after o answer.Least text h = (o, refl, h)
 due_by before after o answer.NoneMeets text h = (o, refl, h)

@@ -1,6 +1,6 @@
 -- How a run ends, by the table of statuses: from a text that is due to the ending, and what follows from the ending.
 use Rattle.std.proofs.Common.{◌≡◌, ◌⊎◌, inl, inr, ℕ, List, Option, Some, None, Result, Ok, Err, refl, sym, ap, subst, ◌∙◌, le_trans}
-use Rattle.std.specs.Prelude.{IfOk, option_and_then}
+use Rattle.std.specs.Prelude.{IfOk}
 use Rattle.lam_outside.specs.Counts.{Rose}
 use Rattle.lam_words.specs.declared.order.Order.{Order}
 use Rattle.lam_words.specs.declared.order.WordsError.{WordsError}
@@ -14,7 +14,7 @@ use Rattle.laminate.specs.declared.status.Status.TheVariants as status
 use Rattle.laminate.specs.Answers.{Answers, MayEnd, Refuses}
 use Rattle.laminate.specs.Ending.{Due, Ending, EndsAs, MustAccept, MustAnswer, MustRefuse}
 use Rattle.laminate.specs.Faults.{fault_line, fault_status}
-use Rattle.laminate.specs.Orders.{Unread, files_of, if_built}
+use Rattle.laminate.specs.Orders.{Unread, files_of}
 use Rattle.laminate.specs.Outside.{Contents, FilesSeen, Outside, SinkFailed, SinkSeen, SinkStays, Wrote, files_seen, outside, sink_seen}
 use Rattle.laminate.specs.inside.Steps.{IsRead, WritesLine, WritesText}
 use Rattle.laminate.proofs.OrderFacts.{accepted_ends, accepted_is_valid, may_end, unanswered}
@@ -70,15 +70,15 @@ pub usage_read : (r : Result Order WordsError) (e : WordsError) (asked : Option 
     → IsRead r asked → asked ≡ None
 usage_read r e asked is e_is read = subst (λ (x : Result Order WordsError). IsRead x asked) (is ∙ ap Err e_is) read
 
--- an order that words have is that of a mode that is built, or none
+-- the order that words have
 pub order_ends : {K : Type 0} (out : Outside K) (asked : Option OrderWords) (o : OrderWords) (ended : Status) → asked ≡ Some o
-    → Ending out (if_built o) ended → Ending out (option_and_then if_built asked) ended
-order_ends out asked o ended e h = subst (λ (a : Option OrderWords). Ending out (option_and_then if_built a) ended) (sym e) h
+    → Ending out (Some o) ended → Ending out asked ended
+order_ends out asked o ended e h = subst (λ (a : Option OrderWords). Ending out a ended) (sym e) h
 
 -- the usage line is due to words without a reading
 pub usage_due : (before after : FilesSeen) (asked : Option OrderWords) → asked ≡ None
-    → Due before after (option_and_then if_built asked) status.Usage (fault_line fault.Usage)
-usage_due before after asked e = (ap (λ (a : Option OrderWords). option_and_then if_built a) e, refl)
+    → Due before after asked status.Usage (fault_line fault.Usage)
+usage_due before after asked e = (e, refl)
 
 -- ---- what a sink keeps, it keeps over two steps
 

@@ -30,3 +30,5 @@ pub mod CheckSteps
 pub mod Endings
 -- from the steps of a design to its ending
 pub mod DesignSteps
+-- from the steps of a sample to its ending
+pub mod SampleSteps

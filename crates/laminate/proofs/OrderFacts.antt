@@ -110,7 +110,7 @@ unanswered files (check job catalogue report) fault ended text told (inl refused
     let e = said_once files (files_of (check job catalogue report)) input (Err fault) told says refused in cc
 unanswered files (check job catalogue report) fault ended text told (inr (other, others, said, holds)) (input, bytes, says, held, checks) =
     not_both bytes others fault (told_twice (files.contents report) bytes others (told source.Report (input, says)) held.0 holds.0) held.1 holds.1
-unanswered files (sample number options) fault ended text told refuses answers = absurd answers
+unanswered files (sample number options) fault ended text told refuses answers = absurd refuses
 
 -- ---- by mode: the statuses of an answer
 
@@ -124,4 +124,4 @@ pub may_end : (files : FilesSeen) (o : OrderWords) (ended : Status) (text : List
 may_end files (design job catalogue options) ended text (input, says, designs) = ends_as ended designs.report.answer designs.status_is
 may_end files (analyse job catalogue word) ended text (e, _) = e
 may_end files (check job catalogue report) ended text (input, bytes, says, held, checks) = checked_status input bytes ended text checks
-may_end files (sample number options) ended text answers = absurd answers
+may_end files (sample number options) ended text samples = ends_as ended samples.report.answer samples.status_is

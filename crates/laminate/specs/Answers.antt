@@ -1,4 +1,4 @@
--- What an order is answered with, and what it is refused for: a line a mode. A mode that isn't built is not ordered.
+-- What an order is answered with, and what it is refused for: a line a mode.
 use Rattle.std.specs.Prelude.{◌≡◌, ◌⊎◌, ℕ, List, Ok, Err}
 use Rattle.lam_words.specs.Reading.{OrderWords, design, analyse, check, sample}
 use Rattle.laminate.specs.declared.fault.Fault.{Fault}
@@ -10,6 +10,7 @@ use Rattle.laminate.specs.declared.status.Status.TheVariants as status
 use Rattle.laminate.specs.Analysis.{Analyses, RefusesSchedule}
 use Rattle.laminate.specs.Design.{Designs}
 use Rattle.laminate.specs.Checking.{AcceptsReport, ChecksAs, HoldsReport}
+use Rattle.laminate.specs.Sampling.{Samples}
 use Rattle.laminate.specs.Orders.{Say, files_of}
 use Rattle.laminate.specs.Outside.{FilesSeen}
 
@@ -22,7 +23,7 @@ Answers files (analyse job catalogue word) ended text =
 Answers files (check job catalogue report) ended text =
     (input : Input) × (bytes : List ℕ) × Say files (files_of (check job catalogue report)) (Ok input)
     × HoldsReport files report bytes (Ok bytes) × ChecksAs input bytes ended text
-Answers files (sample number options) ended text = ⊥
+Answers files (sample number options) ended text = Samples number options.nodes ended text
 
 -- a fault is the first cause to refuse an order
 abbrev pub Refuses : FilesSeen → OrderWords → Fault → Type 0

@@ -14,6 +14,8 @@ pub mod Analysis
 pub mod Design
 -- what an order to check is refused for, and answered with
 pub mod Checking
+-- what an order of a sample is answered with
+pub mod Sampling
 -- what each order is answered with, and refused for
 pub mod Answers
 -- the table of statuses: what a run that ended with each of them did

@@ -1,5 +1,5 @@
 -- The order that the words have, and the names of the files that it takes.
-use Rattle.std.specs.Prelude.{◌≡◌, ℕ, List, Option, Some, None, option_and_then, IfSome, IsSome, IsSomeAnd, map, string_bytes, String, Result, Ok, ⊤}
+use Rattle.std.specs.Prelude.{◌≡◌, ℕ, List, Option, Some, None, IfSome, IsSome, IsSomeAnd, map, string_bytes, String, Result, Ok, ⊤}
 use Rattle.std.specs.Global.{Global}
 use Rattle.lam_outside.specs.Counts.{Rose}
 use Rattle.lam_words.specs.Reading.{OrderWords, design, analyse, check, sample, reading}
@@ -10,16 +10,9 @@ use Rattle.laminate.specs.declared.input.Input.{Input}
 use Rattle.laminate.specs.Input.{input_of, within_length}
 use Rattle.laminate.specs.Outside.{FilesSeen, IsContent}
 
--- an order of a mode that is built; words that ask for another have no reading today
-abbrev pub if_built : OrderWords → Option OrderWords
-if_built (design job catalogue options) = Some (design job catalogue options)
-if_built (analyse job catalogue schedule) = Some (analyse job catalogue schedule)
-if_built (check job catalogue report) = Some (check job catalogue report)
-if_built (sample number options) = None
-
 -- the order that texts are, if they are one
 abbrev pub order_of : List (String Global) → Option OrderWords
-order_of words = option_and_then if_built (reading (map string_bytes words))
+order_of words = reading (map string_bytes words)
 
 -- ---- the files of an order
 

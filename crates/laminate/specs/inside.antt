@@ -6,3 +6,4 @@ pub mod Budgets
 pub mod Guides
 pub mod Printing
 pub mod Checked
+pub mod Sampled

@@ -89,7 +89,8 @@ fn read_input(alloc: Global, job: &[u8], catalogue: &[u8]) -> Result<Input, Stop
     }
 }
 
-fn stock_of(alloc: Global, bytes: &[u8]) -> Result<Stock, Stop>
+/// The items of a catalogue, of its bytes.
+pub fn stock_of(alloc: Global, bytes: &[u8]) -> Result<Stock, Stop>
     ensures { Gives (as_fault fault.Catalogue (stock_spec bytes.now)) result }
 {
     match read_stock(alloc, bytes) {
@@ -99,7 +100,8 @@ fn stock_of(alloc: Global, bytes: &[u8]) -> Result<Stock, Stop>
     }
 }
 
-fn job_of(alloc: Global, bytes: &[u8], stock: &Stock) -> Result<Job, Stop>
+/// The job, of its bytes.
+pub fn job_of(alloc: Global, bytes: &[u8], stock: &Stock) -> Result<Job, Stop>
     ensures { Gives (as_fault fault.Job (job_spec bytes.now stock.now)) result }
 {
     match read_job(alloc, bytes, stock) {

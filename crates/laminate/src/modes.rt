@@ -3,3 +3,4 @@
 pub mod analyse;
 pub mod check;
 pub mod design;
+pub mod sample;

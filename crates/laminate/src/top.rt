@@ -1,12 +1,12 @@
 //! The top call: from the words and the files to the text and the status.
 
-ghost use Rattle.std.specs.Prelude.{◌≡◌, ◌⊎◌, ◌<◌, ◌^◌, length, slice_get, All, None, Some, Option, option_and_then};
+ghost use Rattle.std.specs.Prelude.{◌≡◌, ◌⊎◌, ◌<◌, ◌^◌, length, slice_get, All, None, Some, Option};
 ghost use Rattle.lam_words.specs.Reading.{OrderWords};
 ghost use Rattle.lam_words.specs.Spelled.{spelled};
 ghost use Rattle.laminate.specs.Answers.{MayEnd};
 ghost use Rattle.laminate.specs.Ending.{Ending, EndsAs, MustAccept, MustAnswer, MustRefuse};
 ghost use Rattle.laminate.specs.Faults.{fault_line, fault_status};
-ghost use Rattle.laminate.specs.Orders.{if_built, order_of};
+ghost use Rattle.laminate.specs.Orders.{order_of};
 ghost use Rattle.laminate.specs.Outside.{IsSteady, SinkStays, outside, sink_seen};
 ghost use Rattle.laminate.specs.declared.fault.Fault.{Fault};
 ghost use Rattle.laminate.specs.inside.Budgets.{HasBudget, ReadsBudget};
@@ -14,7 +14,7 @@ ghost use Rattle.laminate.specs.inside.Guides.{place_of as place_spec};
 ghost use Rattle.laminate.specs.inside.Steps.{Does, IsRead, WritesLine, WritesText};
 
 use crate::fault::{Fault, Stop};
-use crate::modes::{analyse, check, design};
+use crate::modes::{analyse, check, design, sample};
 use crate::status::Status;
 use lam_guide::Guide;
 use lam_outside::{Files, Sink, put_text};
@@ -68,7 +68,7 @@ fn respond<F: Files, K: Sink>(
         files.old files.new sink.old sink.new) }
     ensures ending { (asked : Option OrderWords) → IsRead order asked
         → Ending (outside F.contents F.faults K.written K.faults K.stalls K.terms
-        files.old files.new sink.old sink.new) (option_and_then if_built asked) result }
+        files.old files.new sink.old sink.new) asked result }
 {
     match order {
         Ok(order) => obey(alloc, &order, files, sink, guides),
@@ -96,7 +96,7 @@ fn obey<F: Files, K: Sink>(
     ensures steady { IsSteady (outside F.contents F.faults K.written K.faults K.stalls K.terms
         files.old files.new sink.old sink.new) }
     ensures ending { Ending (outside F.contents F.faults K.written K.faults K.stalls K.terms
-        files.old files.new sink.old sink.new) (if_built (spelled order.now)) result }
+        files.old files.new sink.old sink.new) (Some (spelled order.now)) result }
 {
     match answer(alloc, order, files, sink, guides) {
         Ok(status) => status,
@@ -119,7 +119,7 @@ fn answer<F: Files, K: Sink>(
     ensures steady { IsSteady (outside F.contents F.faults K.written K.faults K.stalls K.terms
         files.old files.new sink.old sink.new) }
     ensures does { Does (outside F.contents F.faults K.written K.faults K.stalls K.terms
-        files.old files.new sink.old sink.new) (if_built (spelled order.now)) result }
+        files.old files.new sink.old sink.new) (Some (spelled order.now)) result }
 {
     match order {
         Order::Design {
@@ -169,10 +169,13 @@ fn answer<F: Files, K: Sink>(
                 report.as_str(),
             )
         }
-        // the mode that isn't built
-        Order::Sample { .. } => {
-            drop(guides);
-            Err(Stop::Fault(Fault::Usage))
+        Order::Sample {
+            number,
+            guide,
+            nodes,
+        } => {
+            let mut guide = kept(guides, *guide);
+            sample::answer(alloc, sink, *number, *nodes, &mut guide)
         }
     }
 }

@@ -24,9 +24,9 @@ use std::alloc::{AllocError, Global};
 
 /// A design, before it is written: what it is for, and the report of the search.
 #[derive(Drop)]
-struct Design {
-    input: Input,
-    report: Report,
+pub struct Design {
+    pub input: Input,
+    pub report: Report,
 }
 
 /// Takes the files of an order, searches in a budget of nodes for the cheapest schedule that meets
@@ -61,7 +61,7 @@ pub fn answer<F: Files, K: Sink>(
 
 /// Searches for the cheapest schedule that meets a job, and reports what was found. The guide hears
 /// of each node of the report.
-fn design_of(
+pub fn design_of(
     alloc: Global,
     input: Input,
     nodes: u32,
@@ -72,6 +72,7 @@ fn design_of(
     requires quiet { heard_count guide.old < 2 ^ 62 }
     ensures same { IfOk result (λ design. design.input ≡ input) }
     ensures so { IfOk result (λ design. IsDesign input.stock input.job nodes design.report) }
+    ensures few { IfOk result (λ design. length design.report.tree ≤ nodes) }
     ensures heard { IfOk result (λ design. heard_count guide.new
         ≡ heard_count guide.old + length design.report.tree) }
     ensures rose { heard_count guide.old ≤ heard_count guide.new }
@@ -111,7 +112,7 @@ fn write<K: Sink>(design: &Design, sink: &mut K) -> Status
 }
 
 /// The status of an answer.
-fn status_of(answer: &Answer) -> Status
+pub fn status_of(answer: &Answer) -> Status
     ensures { result ≡ status_spec answer.now }
 {
     match answer {

@@ -14,6 +14,8 @@ mod designs;
 mod refusals;
 // What checks of reports answer.
 mod checks;
+// What samples write.
+mod samples;
 // What becomes of the guides, and of a text that can't be written whole.
 mod edges;
 

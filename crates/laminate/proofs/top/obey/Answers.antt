@@ -1,5 +1,5 @@
+use Rattle.std.proofs.Common.{Some}
 use Rattle.lam_words.specs.Spelled.{spelled}
-use Rattle.laminate.specs.Orders.{if_built}
 use Rattle.laminate.specs.Outside.{sink_seen}
 use Rattle.laminate.proofs.Endings.{line_ends, stays_on}
 use Rattle.laminate.proofs.top.obey.Goals as goal
@@ -20,4 +20,4 @@ returns-in-Err-Fault-clause-ending g c =
     let (same, due) = rw c.in-Err-Fault.field-0-is at c.in-Err-Fault.ensures.does in
     line_ends g.F.Files.contents g.F.Files.faults g.K.Sink.written g.K.Sink.faults g.K.Sink.stalls g.K.Sink.terms
     c.args.files.now c.answer.new.files c.args.sink.now c.answer.new.sink c.write_fault.new.sink
-    (if_built (spelled c.args.order.now)) c.in-Err-Fault.fault c.write_fault.result same due c.write_fault.ensures.writes
+    (Some (spelled c.args.order.now)) c.in-Err-Fault.fault c.write_fault.result same due c.write_fault.ensures.writes

@@ -1,8 +1,6 @@
 use Rattle.std.proofs.Common.{refl}
-use Rattle.std.specs.Prelude.{option_and_then}
 use Rattle.lam_words.specs.Spelled.{spelled}
 use Rattle.laminate.specs.declared.fault.Fault.TheVariants as fault
-use Rattle.laminate.specs.Orders.{if_built}
 use Rattle.laminate.specs.Outside.{files_seen, outside}
 use Rattle.laminate.proofs.Endings.{line_ends, order_ends, usage_due, usage_read}
 use Rattle.laminate.proofs.top.respond.Goals as goal
@@ -17,6 +15,6 @@ pub returns-in-Usage-clause-ending : goal.returns-in-Usage-clause-ending
 returns-in-Usage-clause-ending g c = λ asked read.
     line_ends g.F.Files.contents g.F.Files.faults g.K.Sink.written g.K.Sink.faults g.K.Sink.stalls g.K.Sink.terms
     c.args.files.now c.args.files.now c.args.sink.now c.args.sink.now c.write_fault.new.sink
-    (option_and_then if_built asked) fault.Usage c.write_fault.result refl
+    asked fault.Usage c.write_fault.result refl
     (usage_due (files_seen g.F.Files.contents g.F.Files.faults c.args.files.now) (files_seen g.F.Files.contents g.F.Files.faults c.args.files.now)
     asked (usage_read c.args.order c.in-Err.error asked c.in-Err.is c.in-Usage.is read)) c.write_fault.ensures.writes

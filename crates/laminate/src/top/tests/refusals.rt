@@ -17,7 +17,7 @@ fn words_and_names_of_files_have_their_faults(rt: HostRuntime) -> Result<(), Fai
             Status::ReadFault,
             "cannot read report\n",
         ),
-        ("sample 1", Status::Usage, USAGE),
+        ("sample 0", Status::Usage, USAGE),
         ("--help", Status::Usage, USAGE),
         ("analyse job catalogue mat --nodes 5", Status::Usage, USAGE),
         ("analyse job catalogue -x", Status::Usage, USAGE),
