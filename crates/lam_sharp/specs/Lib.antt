@@ -1,0 +1,4 @@
+-- values near 1, and what they say of a stress
+pub mod NearOne
+-- what they say of the places of a wall
+pub mod NearPlaces
