@@ -6,3 +6,5 @@ pub mod Sizes
 pub mod Rounded
 -- a value of fixed point is known by its ends
 pub mod FixFacts
+-- a ball is known by its middle and its radius; sizes
+pub mod Balls

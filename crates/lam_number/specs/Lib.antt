@@ -1,4 +1,4 @@
 -- where an enclosure lies to a margin
 pub mod Signs
--- fixed point's own: nobody has to believe it
+-- what fixed point and balls compute: nobody has to believe it
 pub mod inside

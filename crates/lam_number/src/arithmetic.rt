@@ -108,7 +108,7 @@ pub(crate) fn squared<const S: u32>(x: Fix<S>) -> Fix<S>
 }
 
 /// The end times a whole number.
-fn end_times(end: i64, k: i64, scale: u32) -> i64
+pub(crate) fn end_times(end: i64, k: i64, scale: u32) -> i64
     requires scale { IsScale scale }
     requires room { unsigned_abs end * unsigned_abs k ≤ 6 * 2 ^ scale }
     ensures { result ≡ end *ℤ k }
@@ -140,7 +140,7 @@ fn low_quotient(value: i128, over: i128) -> i64
 }
 
 /// The high end of a number over a positive one.
-fn high_quotient(value: i128, over: i128) -> i64
+pub(crate) fn high_quotient(value: i128, over: i128) -> i64
     requires positive { pos 0 <ℤ over }
     requires negatable { unsigned_abs value < 2 ^ 127 }
     requires room { FitsSigned w64 (ceil_over value (unsigned_abs over)) }
@@ -160,7 +160,7 @@ fn in_units(num: i128, scale: u32) -> i128
 }
 
 /// The low end of a ratio.
-fn ratio_floor(num: i128, den: i128, scale: u32) -> i64
+pub(crate) fn ratio_floor(num: i128, den: i128, scale: u32) -> i64
     requires scale { IsScale scale }
     requires positive { pos 0 <ℤ den }
     requires num { unsigned_abs num ≤ 2 ^ 66 }
@@ -196,7 +196,7 @@ pub(crate) fn ratio<const S: u32>(num: i128, den: i128) -> Fix<S>
 }
 
 /// An end over a positive whole number, rounded down.
-fn end_floor(end: i64, k: i64) -> i64
+pub(crate) fn end_floor(end: i64, k: i64) -> i64
     requires { pos 1 ≤ℤ k }
     ensures { result ≡ floor_over end (unsigned_abs k) }
 {

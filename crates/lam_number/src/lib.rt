@@ -12,9 +12,16 @@ mod wide;
 mod arithmetic;
 // fixed point as an enclosure, at the two scales
 mod scales;
+// a middle and a radius in fixed point
+mod ball;
+// the calls of balls
+mod ball_arithmetic;
+// balls as an enclosure
+mod ball_calls;
 // a verdict, and the strains at a face
 mod strength;
 
+pub use ball::Ball;
 pub use enclosure::{Enclosure, Sign};
 pub use fix::Fix;
 pub use strength::{FaceStrain, Verdict};

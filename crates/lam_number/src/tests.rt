@@ -19,6 +19,8 @@ macro_rules! expect_ends {
     };
 }
 
+mod balls;
+
 #[test]
 fn a_ratio_is_rounded_outwards(rt: HostRuntime) {
     expect_ends!(rt; Fix::<60>::of_ratio(1, 3), 384307168202282325, 384307168202282326);
