@@ -1,13 +1,13 @@
--- The entries of D that the buckling of a plate takes: D11 and D66 are not negative, D22 is at most 512 times D11, and the
--- form of D at two shares is not negative.
+-- The entries of D that the buckling of a plate takes: D11 and D66 are not negative, D66 is at most a sixth, D22 is at most
+-- 512 times D11, and the form of D at two shares lies between the floor over q0 and 1, each times a third of their squares.
 use Rattle.std.proofs.Common.{◌≡◌, refl, sym, ◌∙◌, ap, subst, subst₂, ℤ, pos, ◌*ℤ◌, ◌≤ℤ◌, ◌<ℤ◌, List, arith}
 use Rattle.std.proofs.lemmas.Int.{ints}
-use Rattle.lam_fraction.specs.Fraction.{ℚ, whole, fraction, inverse, ◌+ℚ◌, ◌*ℚ◌, ◌/ℚ◌, ◌≤ℚ◌, ◌-ℚ◌}
-use Rattle.lam_fraction.proofs.Expression.{int, ◌⊕◌, ◌⊖◌, ◌⊗◌}
+use Rattle.lam_fraction.specs.Fraction.{ℚ, whole, fraction, inverse, ◌+ℚ◌, ◌*ℚ◌, ◌/ℚ◌, ◌≤ℚ◌, ◌-ℚ◌, opposite}
+use Rattle.lam_fraction.proofs.Expression.{int, ◌⊕◌, ◌⊖◌, ◌⊗◌, minus}
 use Rattle.lam_fraction.proofs.Solver.{◌≐◌}
-use Rattle.lam_fraction.proofs.Rationals.{solve, from₁, above, square, number, positive_number, weaken, at_most, at_most_over, transitive, inverse_positive, ◌+ₙ◌, ◌*ₙ◌}
+use Rattle.lam_fraction.proofs.Rationals.{solve, from₁, from₂, fraction_times, above, square, number, positive_number, weaken, at_most, at_most_over, transitive, inverse_positive, ◌+ₙ◌, ◌*ₙ◌}
 use Rattle.lam_fraction.proofs.FractionBounds.{whole_positive, fraction-times}
-use Rattle.lam_fraction.proofs.WholeFractions.{whole_at_most, fraction_positive}
+use Rattle.lam_fraction.proofs.WholeFractions.{whole_at_most, fraction_positive, inverse-whole}
 use Rattle.lam_fraction.proofs.FractionRing.{whole-product}
 use Rattle.lam_stock.specs.declared.item.Item.{Item}
 use Rattle.lam_stock.specs.declared.item.ItemNo.{ItemNo}
@@ -27,7 +27,7 @@ use Rattle.lam_wall.proofs.CatalogueWalls.{plies-form}
 abbrev zero : ℚ
 zero = whole (pos 0)
 
-abbrev third : ℚ
+abbrev pub third : ℚ
 third = inverse (whole (pos 3))
 
 -- curvatures x and y, and no twist; and a twist of 1
@@ -76,7 +76,7 @@ squares-is x y = solve 4 (λ h x y i.
     (int (pos 0) ⊗ int (pos 0) ⊕ int (pos 0) ⊗ int (pos 0) ⊕ h ⊗ (int (pos 0) ⊗ int (pos 0))) ⊕ (x ⊗ x ⊕ y ⊗ y ⊕ h ⊗ (int (pos 0) ⊗ int (pos 0))) ⊗ i
     ≐ (x ⊗ x ⊕ y ⊗ y) ⊗ i) refl (fraction (pos 1) (pos 2)) x y third
 
-third_above : whole (pos 0) ≤ℚ third
+pub third_above : whole (pos 0) ≤ℚ third
 third_above = weaken (inverse_positive (positive_number 2))
 
 mean_above : (x y : ℚ) → whole (pos 0) ≤ℚ (x *ℚ x +ℚ y *ℚ y) *ℚ third
@@ -88,6 +88,18 @@ half_above = weaken (fraction_positive (pos 1) (pos 2) (omega (arith, ints)) (om
 twist_squares_above : whole (pos 0) ≤ℚ mean_squares at_rest twist
 unfolding ◌/ℚ◌
 twist_squares_above = (square zero +ₙ square zero +ₙ half_above *ₙ square zero) +ₙ (square zero +ₙ square zero +ₙ half_above *ₙ square (whole (pos 1))) *ₙ third_above
+
+-- of a twist of 1 it is a sixth
+twist_sixth : whole (pos 6) *ℚ mean_squares at_rest twist ≡ whole (pos 1)
+unfolding ◌-ℚ◌ ◌/ℚ◌
+twist_sixth =
+    from₂ (whole (pos 2) *ℚ fraction (pos 1) (pos 2)) (inverse-whole (pos 3) (omega (arith, ints))) (whole (pos 1)) (fraction_times (pos 1) (pos 2) (omega (arith, ints)))
+    (solve 2 (λ h i. int (pos 6) ⊗ ((int (pos 0) ⊗ int (pos 0) ⊕ int (pos 0) ⊗ int (pos 0) ⊕ h ⊗ (int (pos 0) ⊗ int (pos 0))) ⊕ (int (pos 0) ⊗ int (pos 0) ⊕ int (pos 0) ⊗ int (pos 0) ⊕ h ⊗ (int (pos 1) ⊗ int (pos 1))) ⊗ i)
+    ≐ int (pos 1) ⊕ (int (pos 2) ⊗ h) ⊗ (int (pos 3) ⊗ i ⊖ int (pos 1)) ⊕ int (pos 1) ⊗ (int (pos 2) ⊗ h ⊖ int (pos 1))) refl (fraction (pos 1) (pos 2)) third)
+
+sixth_most : (n s : ℚ) → n ≤ℚ s → whole (pos 6) *ℚ s ≡ whole (pos 1) → whole (pos 6) *ℚ n ≤ℚ whole (pos 1)
+unfolding ◌-ℚ◌
+sixth_most n s h e = at_most (number 6 *ₙ above h) (from₁ (opposite (whole (pos 1))) e (solve 2 (λ n s. int (pos 1) ⊖ int (pos 6) ⊗ n ≐ int (pos 6) ⊗ (s ⊖ n) ⊕ minus (int (pos 1)) ⊗ (int (pos 6) ⊗ s ⊖ int (pos 1))) refl n s))
 
 -- one part in 512 of q0 is at most the floor
 part_of_floor : (floor q0 : ℤ) → pos 0 <ℤ q0 → q0 ≤ℤ (pos 512 *ℤ floor) → whole (pos 1) ≤ℚ whole (pos 512) *ℚ fraction floor q0
@@ -109,7 +121,7 @@ most_of_least f i d e sign part least most =
     i_part = above part *ₙ sign
 
 module _ {scale : Scale} {stock : List Item} {numbers : List ItemNo} (k : ArePlies scale stock numbers) (m : Matrices) (are : AreMatrices scale.q0 (items_of stock numbers) m) where
-  abbrev part : ℚ
+  abbrev pub part : ℚ
   part = fraction scale.floor scale.q0
 
   q0_above : pos 0 <ℤ scale.q0
@@ -118,7 +130,7 @@ module _ {scale : Scale} {stock : List Item} {numbers : List ItemNo} (k : ArePli
   part_above : whole (pos 0) ≤ℚ part
   part_above = weaken (fraction_positive scale.floor scale.q0 (let f = k.catalogue.floor in omega (arith, ints, f)) q0_above)
 
-  plane-between : (x y : ℚ) → (part *ℚ ((x *ℚ x +ℚ y *ℚ y) *ℚ third) ≤ℚ plane_form m.d x y) × (plane_form m.d x y ≤ℚ (x *ℚ x +ℚ y *ℚ y) *ℚ third)
+  pub plane-between : (x y : ℚ) → (part *ℚ ((x *ℚ x +ℚ y *ℚ y) *ℚ third) ≤ℚ plane_form m.d x y) × (plane_form m.d x y ≤ℚ (x *ℚ x +ℚ y *ℚ y) *ℚ third)
   plane-between x y =
       let b = plies-form k m at_rest (plane x y) are in (
         subst₂ (λ s q. part *ℚ s ≤ℚ q) (squares-is x y) (form-is m x y) b.0,
@@ -130,6 +142,12 @@ module _ {scale : Scale} {stock : List Item} {numbers : List ItemNo} (k : ArePli
 
   pub twist-above : whole (pos 0) ≤ℚ m.d.ss
   twist-above = subst (λ q. whole (pos 0) ≤ℚ q) (twist-is m) (transitive (part_above *ₙ twist_squares_above) (plies-form k m at_rest twist are).0)
+
+  pub twist-most : whole (pos 6) *ℚ m.d.ss ≤ℚ whole (pos 1)
+  twist-most = sixth_most m.d.ss (mean_squares at_rest twist) (subst (λ q. q ≤ℚ mean_squares at_rest twist) (twist-is m) (plies-form k m at_rest twist are).1) twist_sixth
+
+  pub part-least : whole (pos 1) ≤ℚ whole (pos 512) *ℚ part
+  part-least = part_of_floor scale.floor scale.q0 q0_above k.catalogue.spread
 
   at_unit_x : (a b c i : ℚ) → (a *ℚ (whole (pos 1) *ℚ whole (pos 1)) +ℚ whole (pos 2) *ℚ b *ℚ (whole (pos 1) *ℚ zero) +ℚ c *ℚ (zero *ℚ zero) ≡ a) × ((whole (pos 1) *ℚ whole (pos 1) +ℚ zero *ℚ zero) *ℚ i ≡ i)
   unfolding ◌-ℚ◌
@@ -159,4 +177,4 @@ module _ {scale : Scale} {stock : List Item} {numbers : List ItemNo} (k : ArePli
   along-above = transitive (part_above *ₙ third_above) along-least
 
   pub across-times : m.d.yy ≤ℚ whole (pos 512) *ℚ m.d.xx
-  across-times = most_of_least part third m.d.xx m.d.yy third_above (part_of_floor scale.floor scale.q0 q0_above k.catalogue.spread) along-least across-most
+  across-times = most_of_least part third m.d.xx m.d.yy third_above part-least along-least across-most

@@ -20,6 +20,8 @@ pub mod CrossProducts
 pub mod PanelFacts
 -- what a printed ratio is
 pub mod PrintedFacts
+-- how near a verdict is to the factor
+pub mod near
 -- walls of plies that are all the same
 pub mod AlikeWalls
 -- the definitions tried on numbers

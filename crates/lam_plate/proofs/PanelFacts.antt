@@ -114,16 +114,16 @@ times-range : (f : ℤ) → (pos 1 ≤ℤ (int_min (int_max f (pos 0)) (pos 511)
 times-range f = (omega (arith, ints, clamps), omega (arith, ints, clamps))
 
 module _ {A : Type 0} {n : Numbers A} (laws : Lawful n) {w : Wall A} {scale : Scale} {stock : List Item} {numbers : List ItemNo} (k : StandsFor n w scale stock numbers) where
-  abbrev wall : List Item
+  abbrev pub wall : List Item
   wall = items_of stock numbers
 
-  abbrev m : Matrices
+  abbrev pub m : Matrices
   m = k.matrices.0
 
-  are : AreMatrices scale.q0 wall m
+  pub are : AreMatrices scale.q0 wall m
   are = k.matrices.1
 
-  holds : HoldsWall n w m
+  pub holds : HoldsWall n w m
   holds = k.matrices.2
 
   abbrev times : ℤ
@@ -161,10 +161,10 @@ module _ {A : Type 0} {n : Numbers A} (laws : Lawful n) {w : Wall A} {scale : Sc
   entries : m.d.yy ≤ℚ whole times *ℚ m.d.xx
   entries = (times-facts (int_le (n.low w.d.xx) (pos 0)) refl).2
 
-  q0_above : pos 0 <ℤ scale.q0
+  pub q0_above : pos 0 <ℤ scale.q0
   q0_above = scale-above k.plies.catalogue numbers
 
-  h_above : pos 0 <ℤ wall_thickness wall
+  pub h_above : pos 0 <ℤ wall_thickness wall
   h_above = plies-thick k.plies
 
   unit_least : whole (pos 0) ≤ℚ bending_unit scale.q0 wall m are
@@ -180,25 +180,25 @@ module _ {A : Type 0} {n : Numbers A} (laws : Lawful n) {w : Wall A} {scale : Sc
       (subst (λ z. bending_unit scale.q0 wall m are *ℚ m.d.yy ≤ℚ z) (middle-first (bending_unit scale.q0 wall m are) (whole times) m.d.xx) (with_factor (bending_unit scale.q0 wall m are) unit_least entries))
 
   module _ (p : PanelData) (panel : IsPanel p) where
-    abbrev at : Plate A
+    abbrev pub at : Plate A
     at = by.plate n scale.q0 w p
 
-    abbrev aa : ℤ
+    abbrev pub aa : ℤ
     aa = p.length *ℤ p.length
 
-    abbrev bb : ℤ
+    abbrev pub bb : ℤ
     bb = p.width *ℤ p.width
 
-    long : pos 0 <ℤ p.length
+    pub long : pos 0 <ℤ p.length
     long = let l = panel.length.least in omega (arith, ints, l)
 
-    wide : pos 0 <ℤ p.width
+    pub wide : pos 0 <ℤ p.width
     wide = let l = panel.width.least in omega (arith, ints, l)
 
-    aa_is : IsFrom (pos 2500) (pos 400000000) aa
+    pub aa_is : IsFrom (pos 2500) (pos 400000000) aa
     aa_is = side-square p.length panel.length
 
-    bb_is : IsFrom (pos 2500) (pos 400000000) bb
+    pub bb_is : IsFrom (pos 2500) (pos 400000000) bb
     bb_is = side-square p.width panel.width
 
     -- ---- the number of half waves that decides
@@ -209,13 +209,13 @@ module _ {A : Type 0} {n : Numbers A} (laws : Lawful n) {w : Wall A} {scale : Sc
         at_most-of_test _ _ (first-decides (by.rises_from times aa bb) 1902 1 1903 refl (test-of_at_most _ _ last))
 
     module _ (i : ℕ) (some : 1 ≤ i) (few : i ≤ 1903) where
-      abbrev x : ℤ
+      abbrev pub x : ℤ
       x = (pos i *ℤ pos i) *ℤ bb
 
-      x_least : pos 1 ≤ℤ x
+      pub x_least : pos 1 ≤ℤ x
       x_least = positive-product (pos i *ℤ pos i) bb (positive-product (pos i) (pos i) (omega (arith, ints, some)) (omega (arith, ints, some))) (let b = bb_is.least in omega (arith, ints, b))
 
-      x_most : x ≤ℤ pos 2000000000000000
+      pub x_most : x ≤ℤ pos 2000000000000000
       x_most =
           let small : unsigned_abs x ≤ (1903 * 1903) * 400000000 = product_small (1903 * 1903) 400000000 (pos i *ℤ pos i) bb (product_small 1903 1903 (pos i) (pos i) (omega (arith, ints, few)) (omega (arith, ints, few))) (let l = bb_is.least in let g = bb_is.greatest in omega (arith, ints, l, g)) in
           omega (arith, ints, small)
@@ -242,22 +242,22 @@ module _ {A : Type 0} {n : Numbers A} (laws : Lawful n) {w : Wall A} {scale : Sc
       abbrev t : Held laws
       t = holding (share-reach laws aa x y_least y_most x_least x_most) (laws.ratio aa (aa +ℤ x) (share-room aa x y_least y_most x_least x_most)).held
 
-      abbrev alongs : ℚ
+      abbrev pub alongs : ℚ
       alongs = along_part scale.q0 wall m are p long wide i
 
-      abbrev acrosses : ℚ
+      abbrev pub acrosses : ℚ
       acrosses = across_part scale.q0 wall m are p long wide i
 
-      shares-held : Holds n (by.in_waves n.calc at i).shares (alongs *ℚ acrosses)
+      pub shares-held : Holds n (by.in_waves n.calc at i).shares (alongs *ℚ acrosses)
       shares-held = ((held laws).product s t).holds refl
 
-      form-held : Holds n (by.in_waves n.calc at i).form (form_at scale.q0 wall m are p long wide i)
+      pub form-held : Holds n (by.in_waves n.calc at i).form (form_at scale.q0 wall m are p long wide i)
       form-held = (by.form (held laws) (by.bending (held laws) d) s t ((held laws).product s t)).holds refl
 
-      shares-above : whole (pos 0) <ℚ alongs *ℚ acrosses
+      pub shares-above : whole (pos 0) <ℚ alongs *ℚ acrosses
       shares-above = parts_above scale.q0 wall m are p long wide i some
 
-      form-least : whole (pos 0) ≤ℚ form_at scale.q0 wall m are p long wide i
+      pub form-least : whole (pos 0) ≤ℚ form_at scale.q0 wall m are p long wide i
       form-least = form-above m.d.xx m.d.xy m.d.yy m.d.ss alongs acrosses (plane-above k.plies m are alongs acrosses) (twist-above k.plies m are) (weaken shares-above)
 
       pub high-above : pos 0 <ℤ n.high (by.in_waves n.calc at i).shares
@@ -270,7 +270,7 @@ module _ {A : Type 0} {n : Numbers A} (laws : Lawful n) {w : Wall A} {scale : Sc
 
       -- ---- the comparisons
 
-      abbrev load : ℤ
+      abbrev pub load : ℤ
       load = by.load_units p
 
       abbrev stiffness : ℤ
@@ -280,13 +280,13 @@ module _ {A : Type 0} {n : Numbers A} (laws : Lawful n) {w : Wall A} {scale : Sc
       stiffness_same = ap (by.stiffness_units scale.q0) k.thickness
 
       module _ (r : ℤ) (r_least : pos 0 ≤ℤ r) where
-        num_least : pos 0 ≤ℤ (r *ℤ load)
+        pub num_least : pos 0 ≤ℤ (r *ℤ load)
         num_least = product-not_negative r load r_least (load-least p panel)
 
-        den_above : pos 0 <ℤ by.stiffness_units scale.q0 w.h
+        pub den_above : pos 0 <ℤ by.stiffness_units scale.q0 w.h
         den_above = subst (λ z. pos 0 <ℤ z) (sym stiffness_same) (stiffness_above scale.q0 wall m are p long wide h_above q0_above)
 
-        by_units : panel_load p (whole r) ≡ common scale.q0 wall m are p long wide *ℚ fraction (r *ℤ load) (by.stiffness_units scale.q0 w.h)
+        pub by_units : panel_load p (whole r) ≡ common scale.q0 wall m are p long wide *ℚ fraction (r *ℤ load) (by.stiffness_units scale.q0 w.h)
         by_units = load_by_units scale.q0 wall m are p long wide h_above q0_above r
             ∙ ap (λ (z : ℤ). common scale.q0 wall m are p long wide *ℚ fraction (r *ℤ load) z) (sym stiffness_same)
 
@@ -322,14 +322,18 @@ module _ {A : Type 0} {n : Numbers A} (laws : Lawful n) {w : Wall A} {scale : Sc
       | inr few ↦ each i some few
     ]
 
-    pub unloaded-every : (i : ℕ) → 1 ≤ i → whole (pos 0) ≤ℚ buckling_load wall p i
-    unloaded-every i some = elim (cases_lt at.waves i) [
+    -- and what is at most all up to there is at most all
+    pub every-least : (l : ℚ) → ((i : ℕ) → 1 ≤ i → i ≤ at.waves → l ≤ℚ buckling_load wall p i) → (i : ℕ) → 1 ≤ i → l ≤ℚ buckling_load wall p i
+    every-least l each i some = elim (cases_lt at.waves i) [
       | inl more ↦ (
           let rest : at.waves + (i - at.waves) ≡ i = omega (arith, more) in
-          subst (λ j. whole (pos 0) ≤ℚ buckling_load wall p j) rest
-          (transitive (unloaded at.waves waves-some waves-few) (Rising.load-least wall p long wide stiff times most at.waves (i - at.waves) waves-some rises).1))
-      | inr few ↦ unloaded i some (omega (arith, few, waves-few))
+          subst (λ j. l ≤ℚ buckling_load wall p j) rest
+          (transitive (each at.waves waves-some (omega arith)) (Rising.load-least wall p long wide stiff times most at.waves (i - at.waves) waves-some rises).1))
+      | inr few ↦ each i some few
     ]
+
+    pub unloaded-every : (i : ℕ) → 1 ≤ i → whole (pos 0) ≤ℚ buckling_load wall p i
+    unloaded-every = every-least (whole (pos 0)) (λ i some few. unloaded i some (omega (arith, few, waves-few)))
 
     pub verdict-stands : (r : ℤ) → pos 0 ≤ℤ r → by.panel_verdict n scale.q0 w p r ≡ Meets → StandsAbove wall p (whole r)
     verdict-stands r least e = every (panel_load p (whole r)) (λ i some few.

@@ -128,6 +128,39 @@ module _ {A : Type 0} (n : Numbers A) (p : Plate A) where
   pub meets-wave : (load : ℤ) (m : ℕ) → meets n (in_waves n.calc p m) load p.stiffness ≡ true → At load m ≡ Meets
   meets-wave load m e = ap (λ (t : Bool). if t then Meets else (if fails n (in_waves n.calc p m) load p.stiffness then Fails else Straddles)) e
 
+  -- where not all together meet, one is not seen to meet
+  joined-meets : (v : Verdict) → joined v Meets ≡ v
+  joined-meets Meets = refl
+  joined-meets Fails = refl
+  joined-meets Straddles = refl
+
+  pub one-not_met : (load : ℤ) (all : ℕ) → ¬ (verdict_up_to n p load all ≡ Meets) → (m : ℕ) × (1 ≤ m) × (m ≤ all) × (meets n (in_waves n.calc p m) load p.stiffness ≡ false)
+  one-not_met load zero h = absurd (h (verdict-none load))
+  one-not_met load (suc all) h = last-or-earlier (meets n (in_waves n.calc p (suc all)) load p.stiffness) refl (λ earlier. one-not_met load all earlier)
+    where
+      last-or-earlier : (b : Bool) → meets n (in_waves n.calc p (suc all)) load p.stiffness ≡ b
+          → (¬ (verdict_up_to n p load all ≡ Meets) → (m : ℕ) × (1 ≤ m) × (m ≤ all) × (meets n (in_waves n.calc p m) load p.stiffness ≡ false))
+          → (m : ℕ) × (1 ≤ m) × (m ≤ suc all) × (meets n (in_waves n.calc p m) load p.stiffness ≡ false)
+      last-or-earlier false e rest = (suc all, omega arith, omega arith, e)
+      last-or-earlier true e rest =
+          let same : verdict_up_to n p load (suc all) ≡ verdict_up_to n p load all = verdict-suc load all ∙ ap (joined (verdict_up_to n p load all)) (meets-wave load (suc all) e) ∙ joined-meets (verdict_up_to n p load all) in
+          let one = rest (λ f. h (same ∙ f)) in
+          (one.0, one.1, omega (arith, one.2), one.3)
+
+  -- where all together do not fail, each is seen to meet or is not seen to fail
+  pub each-not_failed : (load : ℤ) (all : ℕ) → ¬ (verdict_up_to n p load all ≡ Fails) → (m : ℕ) → 1 ≤ m → m ≤ all
+      → (meets n (in_waves n.calc p m) load p.stiffness ≡ true) ⊎ (fails n (in_waves n.calc p m) load p.stiffness ≡ false)
+  each-not_failed load all h m some few =
+      by_tests (meets n (in_waves n.calc p m) load p.stiffness) (fails n (in_waves n.calc p m) load p.stiffness) (λ e. h (fails-together load (m - 1) all (omega (arith, some, few)) (ap (At load) before ∙ e)))
+    where
+      before : (m - 1) + 1 ≡ m
+      before = omega (arith, some)
+
+      by_tests : (t f : Bool) → ¬ ((if t then Meets else (if f then Fails else Straddles)) ≡ Fails) → (t ≡ true) ⊎ (f ≡ false)
+      by_tests true f none = inl refl
+      by_tests false true none = absurd (none refl)
+      by_tests false false none = inr refl
+
   -- ---- the printed ratio
 
   pub lowest-none : lowest_up_to n p 0 ≡ 20000

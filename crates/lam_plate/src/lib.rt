@@ -14,7 +14,10 @@ mod plate;
 mod verdict;
 // the ratio that is printed
 mod printed;
+// how near verdicts and printed ratios are to the exact ones, as contracts of functions that do nothing
+mod laws;
 
+pub use laws::{printed_panel_ends, straddles_near_factor};
 pub use printed::printed_panel;
 pub use verdict::panel_verdict;
 

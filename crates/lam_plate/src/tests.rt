@@ -1,11 +1,21 @@
 //! Worked panels: what they stand, as printed and by verdict, at both scales.
 
-ghost use Rattle.std.specs.Prelude.{◌≤◌, IsTrue, IsSomeAnd, slice_get};
+ghost use Rattle.std.specs.Prelude.{◌≡◌, ◌≤◌, ◌<◌, pos, List, IsTrue, IsSomeAnd, slice_get};
 ghost use Rattle.lam_stock.specs.Scale.{scale_of};
+ghost use Rattle.lam_stock.specs.declared.item.Item.{Item};
+ghost use Rattle.lam_stock.specs.declared.item.ItemNo.{ItemNo};
+ghost use Rattle.lam_lamina.specs.Held.{NarrowMatrix};
+ghost use Rattle.lam_number.specs.declared.strength.Verdict.TheVariants.{Straddles};
+ghost use Rattle.lam_job.specs.declared.limits.TheConstants.{GREATEST_FACTOR};
+ghost use Rattle.lam_job.specs.JobData.{JobData};
+ghost use Rattle.lam_job.specs.Near.{NearFactor};
+ghost use Rattle.lam_job.specs.Ranges.{IsFrom, IsPanel};
 ghost use Rattle.lam_job.specs.Rules.{IsSlanted};
-ghost use Rattle.lam_plate.specs.Panels.{IsFitWall};
+ghost use Rattle.lam_job.specs.Schedule.{wall_of};
+ghost use Rattle.lam_plate.specs.NearFactor.{past_ratio};
+ghost use Rattle.lam_plate.specs.Panels.{BucklesBelow, IsFitWall};
 
-use crate::{panel_verdict, printed_panel};
+use crate::{panel_verdict, printed_panel, printed_panel_ends, straddles_near_factor};
 use lam_job::Panel;
 use lam_number::{Enclosure, Fix, Verdict};
 use lam_stock::{ItemNo, Stack, Stock, read_stock};
@@ -34,7 +44,8 @@ fn alike<N: Enclosure>(alloc: Global, stock: &Stock, plies: u8) -> Wall<N>
     requires straight { IsSomeAnd (slice_get stock.now 0) (λ i. ¬ IsSlanted i) }
     requires some { 1 ≤ plies }
     requires few { plies ≤ 64 }
-    ensures { IsFitWall N.numbers (scale_of stock.now) result }
+    ensures fit { IsFitWall N.numbers (scale_of stock.now) result }
+    ensures narrow { NarrowMatrix 512 N.numbers result.d }
 {
     let mut wall = Stack::new(alloc);
     for _ in 0..plies {
@@ -91,6 +102,38 @@ fn decided<N: Enclosure>(
     }
     let wall: Wall<N> = alike(alloc, stock, 1);
     Some(panel_verdict(&wall, &stock.scale(), panel, factor))
+}
+
+// the numbers of a panel are in range
+fn in_range(panel: &Panel)
+    ensures { IsPanel panel.now }
+{
+    let _load = panel.load;
+}
+
+// the verdict of a panel at the finer scale, by which a wall is near a factor that it straddles
+fn near(alloc: Global, stock: &Stock, panel: &Panel, factor: i64) -> Verdict
+    requires straight { IsSomeAnd (slice_get stock.now 0) (λ i. ¬ IsSlanted i) }
+    requires factor { IsFrom (pos 1) GREATEST_FACTOR factor }
+    ensures { result ≡ Straddles → (stock : List Item) × (job : JobData) × (listed : List ItemNo)
+        × NearFactor (wall_of stock job listed) panel.now factor }
+{
+    straddles_near_factor::<Fix<60>>();
+    in_range(panel);
+    let wall: Wall<Fix<60>> = alike(alloc, stock, 1);
+    panel_verdict(&wall, &stock.scale(), panel, factor)
+}
+
+// the printed ratio at the finer scale, soon above which a wall buckles
+fn ended(alloc: Global, stock: &Stock, panel: &Panel) -> u16
+    requires { IsSomeAnd (slice_get stock.now 0) (λ i. ¬ IsSlanted i) }
+    ensures { result < 20000 → (stock : List Item) × (job : JobData) × (listed : List ItemNo)
+        × BucklesBelow (wall_of stock job listed) panel.now (past_ratio (pos result)) }
+{
+    printed_panel_ends::<Fix<60>>();
+    in_range(panel);
+    let wall: Wall<Fix<60>> = alike(alloc, stock, 1);
+    printed_panel(&wall, &stock.scale(), panel)
 }
 
 // E1, E2, n12, G12 and the thickness of a sheet; the plies; length, width and load of a panel; what is printed
@@ -186,5 +229,21 @@ fn a_tie_straddles(rt: HostRuntime) -> Result<(), Fail> {
         printed::<Fix<60>>(rt.alloc(), &stock, 1, &panel),
         Some(4_239)
     );
+    Ok(())
+}
+
+// the same plate is near the factor that it straddles, and buckles soon above the printed one
+#[test]
+fn a_tie_is_near(rt: HostRuntime) -> Result<(), Fail> {
+    let stock = sheet(rt.alloc(), 10_000, 10_000, 0, 5_000, 10_600)?;
+    let (verdict, ratio) = match panel_of(500, 500, 36_963) {
+        Some(panel) if is_straight(&stock) => (
+            near(rt.alloc(), &stock, &panel, 4_240),
+            ended(rt.alloc(), &stock, &panel),
+        ),
+        _ => (Verdict::Fails, 0),
+    };
+    assert_eq!(rt; verdict, Verdict::Straddles);
+    assert_eq!(rt; ratio, 4_239);
     Ok(())
 }
