@@ -4,7 +4,7 @@ ghost use Rattle.std.specs.Prelude.{◌≡◌, ◌<◌};
 
 use crate::{Reduced, Stiffnesses, Sym3, item_stiffness, reduced, transformed};
 use lam_direction::Direction;
-use lam_number::{Enclosure, Fix};
+use lam_number::{Ball, Enclosure, Fix};
 use lam_stock::{Item, ItemNo, Kind, Lamina, Name, Scale, Stock, read_stock};
 use std::test::Fail;
 
@@ -56,7 +56,7 @@ const TENTH: i64 = 175_921_860_444_160_000;
 const TWENTIETH: i64 = 87_960_930_222_080_000;
 
 // tells whether an enclosure holds a number of which the whole parts below and above are given
-fn holds(x: Fix<60>, below: i64, above: i64) -> bool {
+fn holds<N: Enclosure>(x: N, below: i64, above: i64) -> bool {
     x.low() <= below && above <= x.high()
 }
 
@@ -116,6 +116,16 @@ fn glass_and_its_mirror_image_couple_shear_oppositely(rt: HostRuntime) -> Result
 }
 
 #[test]
+fn balls_hold_the_same_stiffness(rt: HostRuntime) -> Result<(), Fail> {
+    let glass: Reduced<Ball> = reduced(&GLASS, &GLASS_SCALE);
+    let plus = transformed(&glass, &Direction::read(160, 231, 281)?);
+    assert!(rt; holds(plus.xx, 119_003_158_202_926_272, 119_003_158_202_926_273));
+    assert!(rt; holds(plus.ys, 84_245_681_352_627_246, 84_245_681_352_627_247));
+    assert!(rt; plus.xx.high() - 200 < plus.xx.low());
+    Ok(())
+}
+
+#[test]
 fn a_pair_does_not_couple_shear(rt: HostRuntime) -> Result<(), Fail> {
     let name = Name::read(b"glass").expect(&rt, "a name");
     let pair = item(name, Kind::Pair, GLASS, Direction::read(160, 231, 281)?);
@@ -159,6 +169,8 @@ both,pair,40000,10000,250,4000,800000,500000,35000,110000,50000,0,5000,160,231,2
     let no = stock.find(b"glass").expect(&rt, "an item");
     let wide: Sym3<Fix<60>> = entry(&stock, no);
     assert!(rt; same_matrix(&wide, &item_stiffness(&ply, &GLASS_SCALE)));
+    let round: Sym3<Ball> = entry(&stock, no);
+    assert!(rt; same_matrix(&round, &item_stiffness(&ply, &GLASS_SCALE)));
     let name = Name::read(b"both").expect(&rt, "a name");
     let pair = item(name, Kind::Pair, GLASS, Direction::read(160, 231, 281)?);
     let no = stock.find(b"both").expect(&rt, "an item");
