@@ -4,7 +4,7 @@ ghost use Rattle.std.specs.Prelude.{◌<◌, ◌≤◌, length};
 
 use crate::{Wall, assemble, assemble_by};
 use lam_lamina::Stiffnesses;
-use lam_number::{Enclosure, Fix};
+use lam_number::{Ball, Enclosure, Fix};
 use lam_stock::{ItemNo, Stack, Stock, read_stock};
 use std::alloc::Global;
 use std::test::Fail;
@@ -56,6 +56,10 @@ fn a_stiff_ply_on_a_soft_one_couples_bending(rt: HostRuntime) -> Result<(), Fail
     assert!(rt; holds(coarse.a.yy, 15_000 * COARSE, 15_000 * COARSE));
     assert!(rt; holds(coarse.b.yy, 2_500 * COARSE, 2_500 * COARSE));
     assert!(rt; holds(coarse.d.yy, 5_000 * COARSE, 5_000 * COARSE));
+    let round: Wall<Ball> = assemble(&stock, &plies);
+    assert!(rt; holds(round.a.yy, 15_000 * FINE, 15_000 * FINE));
+    assert!(rt; holds(round.b.yy, 2_500 * FINE, 2_500 * FINE));
+    assert!(rt; holds(round.d.yy, 5_000 * FINE, 5_000 * FINE));
     Ok(())
 }
 
@@ -86,5 +90,17 @@ fn a_table_serves_many_walls(rt: HostRuntime) -> Result<(), Fail> {
     plies.push(ItemNo(1));
     let double = assemble_by(&table, &stock, &plies);
     assert!(rt; holds(double.b.yy, 2_500 * FINE, 2_500 * FINE));
+    Ok(())
+}
+
+#[test]
+fn a_table_serves_balls(rt: HostRuntime) -> Result<(), Fail> {
+    let stock = read_stock(rt.alloc(), CATALOGUE.as_bytes())?;
+    let table: Stiffnesses<Ball> = Stiffnesses::of(&stock);
+    let mut plies = Stack::new(rt.alloc());
+    assert_eq!(rt; stock.items().len(), 4);
+    plies.push(ItemNo(1));
+    let single = assemble_by(&table, &stock, &plies);
+    assert!(rt; holds(single.a.yy, 20_000 * FINE, 20_000 * FINE));
     Ok(())
 }
