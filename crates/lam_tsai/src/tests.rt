@@ -5,7 +5,7 @@ ghost use Rattle.lam_fraction.specs.numbers.Numbers.{reach, unit};
 ghost use Rattle.lam_tsai.specs.FaceStrains.{IsWithinSix};
 
 use crate::{Side, Verdict, level, meeting_is_a_ratio, printed_ratio, verdict};
-use lam_number::{Enclosure, FaceStrain, Fix};
+use lam_number::{Ball, Enclosure, FaceStrain, Fix};
 use lam_stock::{Stock, read_stock};
 use std::alloc::Global;
 use std::test::Fail;
@@ -23,6 +23,13 @@ fn part<N: Enclosure>(number: i16) -> N
     ensures { reach N.numbers result ≤ 6 * unit N.numbers }
 {
     N::of_ratio(i128::from(number), 10_000)
+}
+
+// so many eleven-thousandths
+fn eleven_thousandths<N: Enclosure>(number: i16) -> N
+    ensures { reach N.numbers result ≤ 6 * unit N.numbers }
+{
+    N::of_ratio(i128::from(number), 11_000)
 }
 
 // the strains at a face, in ten-thousandths
@@ -67,6 +74,9 @@ fn judged<N: Enclosure>(stock: &Stock, side: Side, at: &FaceStrain<N>, thousandt
 
 // chopped strand mat, and others like it but for their strengths, their direction or their interaction
 const MAT: &str = "mat,ply,10000,10000,0,5000,100000,100000,100000,100000,50000,0,5000,1,0,1,10";
+
+const STIFF: &str =
+    "stiff,ply,20000,20000,0,10000,100000,100000,100000,100000,50000,0,5000,1,0,1,10";
 
 const UNLIKE: &str =
     "unlike,ply,10000,10000,0,5000,100000,100000,100000,200000,50000,0,5000,1,0,1,10";
@@ -121,6 +131,23 @@ fn ratios_are_those_worked_by_hand(rt: HostRuntime) -> Result<(), Fail> {
         let quick: FaceStrain<Fix<28>> = strain(x, y, g);
         let found = ratio(&stock, &quick);
         assert!(rt; found <= expected && expected - found <= 20);
+        let round: FaceStrain<Ball> = strain(x, y, g);
+        assert_eq!(rt; ratio(&stock, &round), expected);
+    }
+    Ok(())
+}
+
+// mat inside stiff under 300 N/mm along y: 36/11000 at the inner surface, and 24/11000 where the two meet
+#[test]
+fn balls_print_the_ratios_of_a_wall_that_bends(rt: HostRuntime) -> Result<(), Fail> {
+    for (line, number, expected) in [(MAT, 36, 3_055), (STIFF, 24, 2_291)] {
+        let stock = catalogue(rt.alloc(), line)?;
+        let bent = FaceStrain {
+            ex: part::<Ball>(0),
+            ey: eleven_thousandths(number),
+            g: part(0),
+        };
+        assert_eq!(rt; ratio(&stock, &bent), expected);
     }
     Ok(())
 }
@@ -131,6 +158,7 @@ fn a_tie_straddles(rt: HostRuntime) -> Result<(), Fail> {
     let mat = catalogue(rt.alloc(), MAT)?;
     let sharp: FaceStrain<Fix<60>> = strain(0, 20, 0);
     let quick: FaceStrain<Fix<28>> = strain(0, 20, 0);
+    let round: FaceStrain<Ball> = strain(0, 20, 0);
     for (factor, verdict) in [
         (0, Verdict::Meets),
         (1, Verdict::Meets),
@@ -141,6 +169,7 @@ fn a_tie_straddles(rt: HostRuntime) -> Result<(), Fail> {
     ] {
         assert_eq!(rt; judged(&mat, Side::Plus, &sharp, factor), verdict);
         assert_eq!(rt; judged(&mat, Side::Plus, &quick, factor), verdict);
+        assert_eq!(rt; judged(&mat, Side::Plus, &round, factor), verdict);
     }
     assert_eq!(rt; judged(&mat, Side::Plus, &sharp, 4_999), Verdict::Meets);
     assert_eq!(rt; judged(&mat, Side::Plus, &sharp, 5_001), Verdict::Fails);
@@ -181,7 +210,8 @@ fn strains_six_wide_have_an_answer(rt: HostRuntime) -> Result<(), Fail> {
 }
 
 #[test]
-fn the_law_is_called_at_both_scales() {
+fn the_law_is_called_over_each_enclosure() {
     meeting_is_a_ratio::<Fix<60>>();
     meeting_is_a_ratio::<Fix<28>>();
+    meeting_is_a_ratio::<Ball>();
 }
