@@ -6,7 +6,7 @@ ghost use Rattle.lam_solve.specs.Solutions.{AreShort};
 
 use crate::{Elimination, Guess, Strains, at_face, enclose_at, solve, solve_by};
 use lam_job::Load;
-use lam_number::{Enclosure, Fix};
+use lam_number::{Ball, Enclosure, Fix};
 use lam_stock::{ItemNo, Stack, Stock, read_stock};
 use lam_wall::{assemble, in_range};
 use std::alloc::Global;
@@ -130,7 +130,7 @@ fn is_near<N: Enclosure>(x: N, at: i64) -> bool {
 }
 
 // tells whether all six are so near
-fn are_near(strains: &Strains<Fix<60>>, at: &Guess) -> bool {
+fn are_near<N: Enclosure>(strains: &Strains<N>, at: &Guess) -> bool {
     is_near(strains.ex, at.ex)
         && is_near(strains.ey, at.ey)
         && is_near(strains.g, at.g)
@@ -165,6 +165,37 @@ fn a_stiff_ply_on_a_soft_one_bends(rt: HostRuntime) -> Result<(), Fail> {
     let coarse: Option<Strains<Fix<28>>> = solved_by(&stock, &plies, &ALONG_Y);
     match coarse {
         Some(strains) => assert!(rt; holds(strains.ey, 585_677) && holds(strains.ky, -292_839)),
+        None => assert!(rt; false),
+    }
+    Ok(())
+}
+
+#[test]
+fn balls_hold_the_same_strains(rt: HostRuntime) -> Result<(), Fail> {
+    let stock = read_stock(rt.alloc(), CATALOGUE.as_bytes())?;
+    assert!(rt; stock.items().len() == 6);
+    let mut plies = Stack::new(rt.alloc());
+    plies.push(ItemNo(0));
+    plies.push(ItemNo(1));
+    let bent = Guess {
+        ey: 2_515_465_100_960_393,
+        ky: -1_257_732_550_480_197,
+        ..NONE
+    };
+    match solved::<Ball>(&stock, &plies, &ALONG_Y) {
+        Some(strains) => {
+            assert!(rt; are_near(&strains, &bent));
+            let inner = at_face(&strains, -10_000, 10_000);
+            assert!(rt; is_near(inner.ey, 3_773_197_651_440_590));
+        }
+        None => assert!(rt; false),
+    }
+    match solved_by::<Ball>(&stock, &plies, &ALONG_Y) {
+        Some(strains) => assert!(rt; are_near(&strains, &bent)),
+        None => assert!(rt; false),
+    }
+    match round::<Ball>(&stock, &plies, &ALONG_Y, &bent) {
+        Some(strains) => assert!(rt; are_near(&strains, &bent)),
         None => assert!(rt; false),
     }
     Ok(())
