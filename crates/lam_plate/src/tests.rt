@@ -1,4 +1,4 @@
-//! Worked panels: what they stand, as printed and by verdict, at both scales.
+//! Worked panels: what they stand, as printed and by verdict, over each enclosure.
 
 ghost use Rattle.std.specs.Prelude.{◌≡◌, ◌≤◌, ◌<◌, pos, List, IsTrue, IsSomeAnd, slice_get};
 ghost use Rattle.lam_stock.specs.Scale.{scale_of};
@@ -17,7 +17,7 @@ ghost use Rattle.lam_plate.specs.Panels.{BucklesBelow, IsFitWall};
 
 use crate::{panel_verdict, printed_panel, printed_panel_ends, straddles_near_factor};
 use lam_job::Panel;
-use lam_number::{Enclosure, Fix, Verdict};
+use lam_number::{Ball, Enclosure, Fix, Verdict};
 use lam_stock::{ItemNo, Stack, Stock, read_stock};
 use lam_wall::{Wall, assemble};
 use std::alloc::Global;
@@ -197,6 +197,10 @@ fn panels_stand_what_the_formula_gives(rt: HostRuntime) -> Result<(), Fail> {
             printed::<Fix<60>>(rt.alloc(), &stock, plies, &panel),
             Some(ratio)
         );
+        assert_eq!(rt;
+            printed::<Ball>(rt.alloc(), &stock, plies, &panel),
+            Some(ratio)
+        );
         let rough = printed::<Fix<28>>(rt.alloc(), &stock, plies, &panel).unwrap_or(20_001);
         assert!(rt; rough <= ratio);
         assert!(rt; u32::from(ratio) * 99 / 100 <= u32::from(rough) + 1);
@@ -222,6 +226,10 @@ fn a_tie_straddles(rt: HostRuntime) -> Result<(), Fail> {
         );
         assert_eq!(rt;
             decided::<Fix<28>>(rt.alloc(), &stock, &panel, factor),
+            Some(verdict)
+        );
+        assert_eq!(rt;
+            decided::<Ball>(rt.alloc(), &stock, &panel, factor),
             Some(verdict)
         );
     }
