@@ -12,3 +12,5 @@ pub mod Enclosed
 pub mod Elimination
 -- turns of refinement
 pub mod Solution
+-- where the turns of a narrow wall end
+pub mod Settled

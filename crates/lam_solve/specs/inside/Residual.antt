@@ -1,7 +1,8 @@
 -- The residual of a centre, from the ends of the matrices' entries and of the load, in units squared.
-use Rattle.std.specs.Prelude.{ℤ, pos, ◌+ℤ◌, ◌-ℤ◌, ◌*ℤ◌}
+use Rattle.std.specs.Prelude.{ℕ, ◌+◌, ◌^◌, max, ℤ, pos, ◌+ℤ◌, ◌-ℤ◌, ◌*ℤ◌, unsigned_abs}
 use Rattle.std.specs.Int.{int_min, int_max}
 use Rattle.lam_fraction.specs.numbers.Numbers.{Numbers, unit}
+use Rattle.lam_fraction.specs.numbers.Rounding.{floor_over}
 use Rattle.lam_lamina.specs.declared.stiffness.Sym3.{Sym3}
 use Rattle.lam_wall.specs.declared.wall.Wall.{Wall}
 use Rattle.lam_solve.specs.declared.six.Six.{Six}
@@ -50,3 +51,15 @@ module _ {A : Type 0} (n : Numbers A) where
     ky = row_residual loads.ky (row_y w.b w.d) c;
     kg = row_residual loads.kg (row_s w.b w.d) c;
   }
+
+  -- ---- the middle of a residual, in units
+
+  abbrev pub middle : Ends → ℤ
+  middle r = floor_over (r.low +ℤ r.high) (2 ^ (n.scale + 1))
+
+  abbrev pub size : Ends → ℕ
+  size r = unsigned_abs (middle r)
+
+  -- the greatest size of the six middles
+  abbrev pub greatest_middle : Six Ends → ℕ
+  greatest_middle r = max (max (max (size r.ex) (size r.ey)) (size r.g)) (max (max (size r.kx) (size r.ky)) (size r.kg))

@@ -14,19 +14,12 @@ use Rattle.lam_solve.specs.inside.Formulas as formulas
 use Rattle.lam_solve.specs.inside.Enclosed.{enclosed}
 use Rattle.lam_solve.specs.inside.Elimination.{eliminated, guess}
 use Rattle.lam_solve.specs.inside.Steps.{cut}
-pub use Rattle.lam_solve.specs.inside.Residual.{residual}
+pub use Rattle.lam_solve.specs.inside.Residual.{residual, middle, size, greatest_middle}
 
 module _ {A : Type 0} (n : Numbers A) where
-  -- the middle of a residual, in units
-  abbrev pub middle : Ends → ℤ
-  middle r = floor_over (r.low +ℤ r.high) (2 ^ (n.scale + 1))
-
-  abbrev pub size : Ends → ℕ
-  size r = unsigned_abs (middle r)
-
   -- a component with the middle of its equation's residual added, and at most 4 in size
   abbrev pub moved : ℤ → Ends → ℤ
-  moved c r = cut (pos (4 * unit n)) (c +ℤ middle r)
+  moved c r = cut (pos (4 * unit n)) (c +ℤ middle n r)
 
   -- the centre after one turn
   unfoldable pub turned : Guess → Six Ends → Guess
@@ -41,8 +34,7 @@ module _ {A : Type 0} (n : Numbers A) where
 
   -- the rule that ends the turns: no middle of the residual is more than 64 units
   unfoldable pub is_settled : Six Ends → Bool
-  is_settled r =
-      nat_le (max (max (max (size r.ex) (size r.ey)) (size r.g)) (max (max (size r.kx) (size r.ky)) (size r.kg))) 64
+  is_settled r = nat_le (greatest_middle n r) 64
 
   -- the first centre at which the rule ends the turns, from a centre on and after so many turns at most
   unfoldable pub refined : Wall A → Six A → ℕ → Guess → Guess
