@@ -22,3 +22,5 @@ pub mod HeldStrains
 pub mod Eliminated
 -- turns of refinement
 pub mod Refined
+-- the turns of refinement over a narrow wall
+pub mod turns

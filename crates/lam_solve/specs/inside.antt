@@ -14,3 +14,5 @@ pub mod Elimination
 pub mod Solution
 -- where the turns of a narrow wall end
 pub mod Settled
+-- what falls at each turn
+pub mod Turns
