@@ -10,3 +10,9 @@ pub mod Near
 pub mod Close
 -- the starts of the turns
 pub mod Starts
+-- what a narrow wall and a load on it keep
+pub mod WallBounds
+-- the turns over a narrow wall
+pub mod WallTurns
+-- the loop of them
+pub mod Loop

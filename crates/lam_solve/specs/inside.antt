@@ -10,6 +10,8 @@ pub mod Residual
 pub mod Enclosed
 -- the elimination of a wall's unknowns
 pub mod Elimination
+-- narrow walls
+pub mod Narrow
 -- turns of refinement
 pub mod Solution
 -- where the turns of a narrow wall end

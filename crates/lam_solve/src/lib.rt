@@ -16,6 +16,8 @@ mod residual;
 mod enclosed;
 // what is left of a wall's equations when its unknowns are eliminated, and the guess by it
 mod elimination;
+// the walls over which turns of refinement end by themselves
+mod narrow;
 // turns of refinement, and the strains of a wall under a load
 mod solution;
 // the strains at a face

@@ -1,21 +1,24 @@
 // Turns of refinement, and the strains of a wall under a load.
 
-ghost use Rattle.std.specs.Prelude.{◌≡◌, ◌*◌, ◌^◌, unsigned_abs};
+ghost use Rattle.std.specs.Prelude.{◌≡◌, ◌*◌, ◌^◌, ◌≤◌, unsigned_abs, true};
 ghost use Rattle.lam_fraction.specs.inside.Size.{AtMost};
 ghost use Rattle.lam_job.specs.LoadRange.{LoadInRange};
 ghost use Rattle.lam_wall.specs.Assembled.{IsWallOf, SmallWall};
 ghost use Rattle.lam_solve.specs.StrainBounds.{OneStrain};
 ghost use Rattle.lam_solve.specs.Solutions.{AreShort, ForEachWall, HoldsEverySolution};
 ghost use Rattle.lam_solve.specs.inside.Elimination.{IsEliminationOf};
-ghost use Rattle.lam_solve.specs.inside.Parts.{SmallEnds, SmallGuess, SmallLoads, SmallResidual};
+ghost use Rattle.lam_solve.specs.inside.Narrow.{is_narrow};
+ghost use Rattle.lam_solve.specs.inside.Parts.{AreLoadsOn, SmallEnds, SmallGuess, SmallLoads, SmallResidual};
+ghost use Rattle.lam_solve.specs.inside.Settled.{Settled};
 ghost use Rattle.lam_solve.specs.inside.Solution as by;
 
 use crate::elimination::Elimination;
 use crate::enclosed::enclosed;
 use crate::loads::loads;
+use crate::narrow::is_narrow;
 use crate::residual::residual;
 use crate::six::{Ends, Six};
-use crate::steps::{cut_narrow, four, shift_down};
+use crate::steps::{cut_narrow, four, one_wide, shift_down, slops};
 use crate::strains::{Guess, Strains};
 use lam_fraction::machine::wide_size;
 use lam_job::Load;
@@ -23,7 +26,7 @@ use lam_number::Enclosure;
 use lam_stock::Scale;
 use lam_wall::Wall;
 
-/// A centre is refined so many times at most.
+/// Over a wall that is not narrow a centre is refined so many times at most.
 const TURNS: u32 = 64;
 
 /// The strains of a wall under a load. Every laminate strain lies in the answer.
@@ -54,7 +57,7 @@ pub fn solve_by<N: Enclosure>(
     ensures value { result ≡ by.solution N.numbers wall.now load.now scale.now }
 {
     let loads = loads(load, scale, wall.h);
-    let centre = refined(wall, &loads, elimination.guess(&loads));
+    let centre = centred(wall, &loads, elimination.guess(&loads));
     enclosed(scale, &centre.strains, &centre.residual)
 }
 
@@ -65,12 +68,84 @@ struct Centre {
     residual: Six<Ends>,
 }
 
+// the centre that a guess leads to
+fn centred<N: Enclosure>(wall: &Wall<N>, loads: &Six<N>, guess: Guess) -> Centre
+    requires wall { SmallWall N.numbers wall.now }
+    requires loads { SmallLoads N.numbers loads.now }
+    requires on { AreLoadsOn N.numbers wall.now loads.now }
+    requires guess { SmallGuess guess }
+    ensures strains { result.strains ≡ by.centre N.numbers wall.now loads.now guess }
+    ensures residual { result.residual ≡ by.residual N.numbers wall.now loads.now result.strains }
+    ensures small { SmallResidual result.residual }
+    ensures settled { is_narrow N.numbers wall.now ≡ true → Settled N.numbers result.strains result.residual }
+{
+    if is_narrow(wall) {
+        settled(wall, loads, guess)
+    } else {
+        refined(wall, loads, guess)
+    }
+}
+
+// over a narrow wall, the first of a start and the centres that follow it, each one turn after the one before, of which no
+// middle of the residual is more than 4096 slops: each turn before it takes from the potential energy, which has a floor
+fn settled<N: Enclosure>(wall: &Wall<N>, loads: &Six<N>, guess: Guess) -> Centre
+    requires wall { SmallWall N.numbers wall.now }
+    requires loads { SmallLoads N.numbers loads.now }
+    requires on { AreLoadsOn N.numbers wall.now loads.now }
+    requires narrow { is_narrow N.numbers wall.now ≡ true }
+    requires guess { SmallGuess guess }
+    ensures strains { result.strains
+        ≡ by.first_settled N.numbers wall.now loads.now (by.start N.numbers wall.now loads.now guess) }
+    ensures residual { result.residual ≡ by.residual N.numbers wall.now loads.now result.strains }
+    ensures small { SmallResidual result.residual }
+    ensures settled { Settled N.numbers result.strains result.residual }
+{
+    let most = slops::<N>(4096);
+    let mut centre = start(wall, loads, guess);
+    while !is_settled::<N>(&centre.residual, most) {
+        centre = turned(wall, loads, &centre);
+    }
+    centre
+}
+
+// a guess whose residual is small, or else no strains
+fn start<N: Enclosure>(wall: &Wall<N>, loads: &Six<N>, guess: Guess) -> Centre
+    requires wall { SmallWall N.numbers wall.now }
+    requires loads { SmallLoads N.numbers loads.now }
+    requires guess { SmallGuess guess }
+    ensures strains { result.strains ≡ by.start N.numbers wall.now loads.now guess }
+    ensures residual { result.residual ≡ by.residual N.numbers wall.now loads.now result.strains }
+    ensures guess { SmallGuess result.strains }
+    ensures small { SmallResidual result.residual }
+{
+    let rest = residual(wall, loads, &guess);
+    let most = one_wide::<N>() / 8192;
+    if is_settled::<N>(&rest, most) {
+        return Centre {
+            strains: guess,
+            residual: rest,
+        };
+    }
+    let none = Guess {
+        ex: 0,
+        ey: 0,
+        g: 0,
+        kx: 0,
+        ky: 0,
+        kg: 0,
+    };
+    Centre {
+        strains: none,
+        residual: residual(wall, loads, &none),
+    }
+}
+
 // the first of a guess and the centres that follow it, each one turn after the one before, that needs no further turn
 fn refined<N: Enclosure>(wall: &Wall<N>, loads: &Six<N>, guess: Guess) -> Centre
     requires wall { SmallWall N.numbers wall.now }
     requires loads { SmallLoads N.numbers loads.now }
     requires guess { SmallGuess guess }
-    ensures strains { result.strains ≡ by.refined N.numbers wall.now loads.now 64 guess }
+    ensures strains { result.strains ≡ by.refined N.numbers 64 wall.now loads.now 64 guess }
     ensures residual { result.residual ≡ by.residual N.numbers wall.now loads.now result.strains }
     ensures small { SmallResidual result.residual }
 {
@@ -80,7 +155,7 @@ fn refined<N: Enclosure>(wall: &Wall<N>, loads: &Six<N>, guess: Guess) -> Centre
     };
     let mut left = TURNS;
     while left > 0 {
-        if is_settled::<N>(&centre.residual) {
+        if is_settled::<N>(&centre.residual, 64) {
             return centre;
         }
         centre = turned(wall, loads, &centre);
@@ -131,11 +206,11 @@ fn moved<N: Enclosure>(component: i64, residual: Ends) -> i64
     cut_narrow(most, component + middle)
 }
 
-// tells whether the residual is so small that no turn is worth its while
+// tells whether no middle of the residual is more than so many units
 #[tactic(auto, unfolding(crate::specs::inside::Solution::is_settled))]
-fn is_settled<N: Enclosure>(residual: &Six<Ends>) -> bool
+fn is_settled<N: Enclosure>(residual: &Six<Ends>, most: u128) -> bool
     requires { SmallResidual residual.now }
-    ensures { result ≡ by.is_settled N.numbers residual.now }
+    ensures { result ≡ by.is_settled N.numbers most residual.now }
 {
     let forces = size::<N>(residual.ex)
         .max(size::<N>(residual.ey))
@@ -143,7 +218,7 @@ fn is_settled<N: Enclosure>(residual: &Six<Ends>) -> bool
     let moments = size::<N>(residual.kx)
         .max(size::<N>(residual.ky))
         .max(size::<N>(residual.kg));
-    forces.max(moments) <= 64
+    forces.max(moments) <= most
 }
 
 // the size of the middle of a residual, in units

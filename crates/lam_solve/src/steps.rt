@@ -6,7 +6,7 @@ ghost use Rattle.lam_fraction.specs.numbers.Rounding.{floor_over};
 ghost use Rattle.lam_fraction.specs.inside.Size.{AtMost};
 ghost use Rattle.lam_solve.specs.inside.Steps.{cut, over_up};
 
-use lam_fraction::machine::{narrow, two_to};
+use lam_fraction::machine::{narrow, size, two_to};
 use lam_number::Enclosure;
 
 /// One, in units of an enclosure.
@@ -43,6 +43,14 @@ pub(crate) fn one_wide<N: Enclosure>() -> u128
     ensures small { result ≤ 2 ^ 60 }
 {
     two_to(N::SCALE)
+}
+
+/// So many slops.
+pub(crate) fn slops<N: Enclosure>(count: u32) -> u128
+    requires { count ≤ 4096 }
+    ensures { result ≡ count * N.numbers.slop }
+{
+    u128::from(count) * size(N::SLOP)
 }
 
 /// A number over a power of two, rounded down.

@@ -1,8 +1,8 @@
 -- The matrices that the sums of ends make are close to twice the held ones in units: so is their quadratic form, which lies
 -- where that of the held ones does.
-use Rattle.std.proofs.Common.{◌≡◌, refl, sym, ◌∙◌, ap, ap₂, subst, ℕ, ◌*◌, ◌≤◌, ℤ, pos, ◌+ℤ◌, ◌-ℤ◌, ◌*ℤ◌, ◌≤ℤ◌, ◌<ℤ◌, List, arith}
+use Rattle.std.proofs.Common.{◌≡◌, refl, ◌∙◌, ℕ, ◌≤◌, ℤ, pos, ◌+ℤ◌, ◌-ℤ◌, ◌*ℤ◌, ◌≤ℤ◌, ◌<ℤ◌, arith}
 use Rattle.std.proofs.lemmas.Int.{ints}
-use Rattle.lam_fraction.specs.Fraction.{ℚ, whole, fraction, inverse, ◌+ℚ◌, ◌-ℚ◌, ◌*ℚ◌, ◌/ℚ◌, ◌≤ℚ◌, opposite}
+use Rattle.lam_fraction.specs.Fraction.{ℚ, whole, fraction, inverse, ◌+ℚ◌, ◌-ℚ◌, ◌*ℚ◌, ◌/ℚ◌, opposite}
 use Rattle.lam_fraction.specs.numbers.Ends as ends
 use Rattle.lam_fraction.specs.numbers.Numbers.{Numbers, Holds, unit, width}
 use Rattle.lam_fraction.proofs.Expression.{Expr, int, ◌⊕◌, ◌⊖◌, ◌⊗◌, minus}
@@ -10,16 +10,12 @@ use Rattle.lam_fraction.proofs.Solver.{◌≐◌}
 use Rattle.lam_fraction.proofs.FractionBounds.{fraction-times, times-inverse, whole_positive}
 use Rattle.lam_fraction.proofs.FractionPairs.{whole-le}
 use Rattle.lam_fraction.proofs.FractionRing.{whole-sum, whole-product}
-use Rattle.lam_fraction.proofs.Rationals.{solve, from₁, from₂, from₃, above, at_most, number, positive_number, weaken, product_within, ◌+ₙ◌, ◌*ₙ◌}
-use Rattle.lam_fraction.proofs.WholeFractions.{whole-difference, whole-product₃, whole-product₄, whole_at_most, twice_half, size_below, size_above, sum_image, product_image}
-use Rattle.lam_stock.specs.declared.item.Item.{Item}
-use Rattle.lam_stock.specs.declared.item.ItemNo.{ItemNo}
-use Rattle.lam_stock.specs.declared.scale.Scale.{Scale}
+use Rattle.lam_fraction.proofs.Rationals.{solve, from₂, from₃, above, at_most, number, positive_number, weaken, product_within, ◌+ₙ◌, ◌*ₙ◌}
+use Rattle.lam_fraction.proofs.WholeFractions.{whole-difference, whole-product₃, whole_at_most, twice_half, size_below, size_above, sum_image, product_image}
 use Rattle.lam_stock.specs.PlyLaw.{OffAxis}
 use Rattle.lam_lamina.specs.declared.stiffness.Sym3.{Sym3}
-use Rattle.lam_lamina.specs.Held.{HoldsMatrix, NarrowMatrix}
+use Rattle.lam_lamina.specs.Held.{HoldsMatrix}
 use Rattle.lam_wall.specs.declared.wall.Wall.{Wall}
-use Rattle.lam_wall.specs.Assembled.{NarrowWall, HoldsWall}
 use Rattle.lam_wall.specs.Energy.{mean_squares}
 use Rattle.lam_wall.specs.Matrices.{Matrices, forces, moments}
 use Rattle.lam_wall.specs.QuadraticForm.{quadratic_form, HasFormBetween}
@@ -144,7 +140,7 @@ module _ {A : Type 0} (n : Numbers A) (wide : ℕ) where
             (whole (pos wide)) (whole (ends_sum n z)) (whole (n.high z -ℤ n.low z)) (whole (n.low z)) (whole (n.high z)) (whole (pos (unit n))) x));
       }
 
-  matrix-close : (z : Sym3 A) (m : Sym3 ℚ) → HoldsMatrix n z m → EachNarrow n wide z → MatrixClose n wide z m
+  pub matrix-close : (z : Sym3 A) (m : Sym3 ℚ) → HoldsMatrix n z m → EachNarrow n wide z → MatrixClose n wide z m
   matrix-close z m h k = record {
     xx = entry-close z.xx m.xx h.xx k.xx;
     xy = entry-close z.xy m.xy h.xy k.xy;
@@ -158,22 +154,22 @@ module _ {A : Type 0} (n : Numbers A) (wide : ℕ) where
 
 module _ {A : Type 0} (n : Numbers A) (wide : ℕ) (w : Wall A) (m : Matrices)
     (ca : MatrixClose n wide w.a m.a) (cb : MatrixClose n wide w.b m.b) (cd : MatrixClose n wide w.d m.d) (y : Six ℤ) where
-  abbrev a : Sym3 ℤ
+  abbrev pub a : Sym3 ℤ
   a = matrix_sums n w.a
 
-  abbrev b : Sym3 ℤ
+  abbrev pub b : Sym3 ℤ
   b = matrix_sums n w.b
 
-  abbrev d : Sym3 ℤ
+  abbrev pub d : Sym3 ℤ
   d = matrix_sums n w.d
 
-  abbrev strain : OffAxis
+  abbrev pub strain : OffAxis
   strain = record { x = whole y.ex; y = whole y.ey; s = whole y.g }
 
-  abbrev bending : OffAxis
+  abbrev pub bending : OffAxis
   bending = record { x = whole y.kx; y = whole y.ky; s = whole y.kg }
 
-  abbrev held : Six ℚ
+  abbrev pub held : Six ℚ
   held = record {
     ex = (forces m strain bending).x;
     ey = (forces m strain bending).y;
@@ -183,7 +179,7 @@ module _ {A : Type 0} (n : Numbers A) (wide : ℕ) (w : Wall A) (m : Matrices)
     kg = (moments m strain bending).s;
   }
 
-  abbrev spread : ℚ
+  abbrev pub spread : ℚ
   spread = whole (pos wide) *ℚ whole (total (sizes y))
 
   rows-close : AreClose spread (twice_unit n) (forces_at a b d y) held
@@ -196,7 +192,7 @@ module _ {A : Type 0} (n : Numbers A) (wide : ℕ) (w : Wall A) (m : Matrices)
     kg = row-close (whole (pos wide)) (twice_unit n) (row_s b d) (row_s m.b m.d) y (record { ex = cb.xs; ey = cb.ys; g = cb.ss; kx = cd.xs; ky = cd.ys; kg = cd.ss });
   }
 
-  abbrev energy : ℤ
+  abbrev pub energy : ℤ
   energy = work (forces_at a b d y) y
 
   form-close : IsWithin (spread *ℚ whole (total (sizes y))) (whole energy -ℚ twice_unit n *ℚ quadratic_form m strain bending)
@@ -217,20 +213,20 @@ module _ {A : Type 0} (n : Numbers A) (wide : ℕ) (w : Wall A) (m : Matrices)
       ⊕ minus (int (pos 2) ⊗ (sq d ⊕ sq e ⊕ h ⊗ sq f)) ⊗ (int (pos 3) ⊗ i ⊖ int (pos 1))) refl
       (whole y.ex) (whole y.ey) (whole y.g) (whole y.kx) (whole y.ky) (whole y.kg) (fraction (pos 1) (pos 2)) (inverse (whole (pos 3))))
 
-  abbrev unit_twice : ℤ
+  abbrev pub unit_twice : ℤ
   unit_twice = pos 2 *ℤ pos (unit n)
 
-  abbrev spare : ℤ
+  abbrev pub spare : ℤ
   spare = pos wide *ℤ (total (sizes y) *ℤ total (sizes y))
 
   spare-whole : whole spare ≡ whole (pos wide) *ℚ (whole (total (sizes y)) *ℚ whole (total (sizes y)))
   spare-whole = whole-product₃ (pos wide) (total (sizes y)) (total (sizes y))
 
   module _ (floor q0 : ℤ) (scale_above : pos 0 <ℤ q0) (form : HasFormBetween floor q0 m strain bending) where
-    abbrev form_of : ℚ
+    abbrev pub form_of : ℚ
     form_of = quadratic_form m strain bending
 
-    abbrev mean : ℚ
+    abbrev pub mean : ℚ
     mean = mean_squares strain bending
 
     pub stiffest : (pos 6 *ℤ energy) ≤ℤ (unit_twice *ℤ weighed y +ℤ pos 6 *ℤ spare)

@@ -8,7 +8,7 @@ use Rattle.lam_lamina.specs.declared.stiffness.Sym3.{Sym3}
 use Rattle.lam_solve.specs.declared.six.Six.{Six}
 use Rattle.lam_solve.specs.inside.Residual.{row_x, row_y, row_s}
 use Rattle.lam_solve.specs.inside.Turns.{work, forces_at, potential}
-use Rattle.lam_solve.proofs.turns.Sizes.{plus, squares-above}
+use Rattle.lam_solve.proofs.turns.Sizes.{plus}
 
 -- what a load leaves at a centre
 abbrev pub left_at : (a b d : Sym3 ℤ) (load : Six ℤ) (unit : ℤ) → Six ℤ → Six ℤ

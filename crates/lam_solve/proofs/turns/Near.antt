@@ -1,14 +1,13 @@
 -- The potential energy of a wall has a floor, and a centre at which it is no greater than at a start is near to the start,
 -- since the strain energy of a step is at most the work of what the load leaves at the start.
-use Rattle.std.proofs.Common.{◌≡◌, refl, sym, subst, ℤ, pos, neg_ℤ, ◌+ℤ◌, ◌-ℤ◌, ◌*ℤ◌, ◌≤ℤ◌, ◌<ℤ◌, arith}
-use Rattle.std.proofs.lemmas.Int.{ints}
+use Rattle.std.proofs.Common.{◌≡◌, refl, sym, subst, ℤ, pos, neg_ℤ, ◌+ℤ◌, ◌-ℤ◌, ◌*ℤ◌, ◌≤ℤ◌, ◌<ℤ◌}
 use Rattle.lam_fraction.proofs.Expression.{Expr, int, ◌⊕◌, ◌⊖◌, ◌⊗◌}
 use Rattle.lam_fraction.proofs.Solver.{◌≐◌}
-use Rattle.lam_fraction.proofs.Integers.{solve, from₁, square, number, positive_number, above, strictly_above, weaken, at_most, at_most_over, product_within, ◌+ₙ◌, ◌*ₙ◌, ◌*ₚ◌}
+use Rattle.lam_fraction.proofs.Integers.{solve, from₁, square, number, positive_number, above, weaken, at_most, at_most_over, product_within, ◌+ₙ◌, ◌*ₙ◌, ◌*ₚ◌}
 use Rattle.lam_lamina.specs.declared.stiffness.Sym3.{Sym3}
 use Rattle.lam_solve.specs.declared.six.Six.{Six}
 use Rattle.lam_solve.specs.inside.Turns.{work, forces_at, potential}
-use Rattle.lam_solve.proofs.turns.Sizes.{size_of, sizes, total, weighed, less, squares-above, weighed-above, squares-weighed, sizes-weighed, size-above, size-from, size-to}
+use Rattle.lam_solve.proofs.turns.Sizes.{size_of, sizes, total, weighed, less, weighed-above, squares-weighed, sizes-weighed, size-above, size-from, size-to}
 use Rattle.lam_solve.proofs.turns.Squares.{EachAtMost, total-most, each-most}
 use Rattle.lam_solve.proofs.turns.Falls.{left_at}
 

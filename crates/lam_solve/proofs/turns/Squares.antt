@@ -1,10 +1,10 @@
 -- Six numbers whose squares with weights are at most 6 e times their sum: the sum is at most 16 e, and each at most 7.9 e.
 -- Twice the squares of the differences from what each is at e are at most 48 e².
-use Rattle.std.proofs.Common.{refl, ℤ, pos, ◌+ℤ◌, ◌-ℤ◌, ◌*ℤ◌, ◌≤ℤ◌, ◌<ℤ◌, arith}
+use Rattle.std.proofs.Common.{refl, ℤ, pos, ◌-ℤ◌, ◌*ℤ◌, ◌≤ℤ◌, ◌<ℤ◌, arith}
 use Rattle.std.proofs.lemmas.Int.{ints}
 use Rattle.lam_fraction.proofs.Expression.{Expr, int, ◌⊕◌, ◌⊖◌, ◌⊗◌}
 use Rattle.lam_fraction.proofs.Solver.{◌≐◌}
-use Rattle.lam_fraction.proofs.Integers.{solve, square, number, positive_number, above, at_most_over, below_root, weaken, ◌+ₙ◌, ◌*ₙ◌, ◌*ₚ◌}
+use Rattle.lam_fraction.proofs.Integers.{solve, square, number, positive_number, above, at_most_over, below_root, ◌+ₙ◌, ◌*ₙ◌, ◌*ₚ◌}
 use Rattle.lam_solve.specs.declared.six.Six.{Six}
 use Rattle.lam_solve.proofs.turns.Sizes.{total, weighed}
 

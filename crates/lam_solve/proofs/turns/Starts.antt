@@ -1,6 +1,6 @@
 -- The starts of the turns, with one of 2^60 units: no strains, and a guess whose residual is small. Centres at which the
 -- potential energy is no greater than at a start are small.
-use Rattle.std.proofs.Common.{◌≡◌, refl, sym, subst, ◌^◌, ℤ, pos, neg_ℤ, ◌+ℤ◌, ◌-ℤ◌, ◌*ℤ◌, ◌≤ℤ◌, ◌<ℤ◌, arith}
+use Rattle.std.proofs.Common.{◌≡◌, refl, ℤ, pos, neg_ℤ, ◌+ℤ◌, ◌-ℤ◌, ◌*ℤ◌, ◌≤ℤ◌, ◌<ℤ◌, arith}
 use Rattle.std.proofs.lemmas.Int.{ints}
 use Rattle.lam_fraction.proofs.Expression.{int, ◌⊕◌, ◌⊖◌, ◌⊗◌, minus}
 use Rattle.lam_fraction.proofs.Solver.{◌≐◌}
@@ -12,7 +12,7 @@ use Rattle.lam_solve.specs.inside.Turns.{work, forces_at, potential}
 use Rattle.lam_solve.proofs.turns.Sizes.{size_of, sizes, total, weighed, less}
 use Rattle.lam_solve.proofs.turns.Squares.{EachAtMost}
 use Rattle.lam_solve.proofs.turns.Falls.{left_at, IsMiddle, AreMiddles}
-use Rattle.lam_solve.proofs.turns.Near.{Within, EachWithin, times, AreSmall, small-strains, near-start}
+use Rattle.lam_solve.proofs.turns.Near.{Within, EachWithin, times, small-strains, near-start}
 
 abbrev pub one : ℤ
 one = pos 1152921504606846976

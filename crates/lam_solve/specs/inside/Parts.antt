@@ -1,14 +1,17 @@
 -- What the calls need of their arguments.
-use Rattle.std.specs.Prelude.{ℕ, ◌*◌, ◌+◌, ◌^◌, ℤ, pos, ◌≤ℤ◌}
+use Rattle.std.specs.Prelude.{◌≡◌, ℕ, ◌*◌, ◌+◌, ◌^◌, ℤ, pos, ◌≤ℤ◌}
 use Rattle.lam_fraction.specs.numbers.Numbers.{Numbers}
 use Rattle.lam_fraction.specs.inside.Reaches.{Reaches, sixteenths}
 use Rattle.lam_fraction.specs.inside.Size.{AtMost}
 use Rattle.lam_stock.specs.declared.scale.Scale.{Scale}
 use Rattle.lam_job.specs.declared.load.Load.{Load}
 use Rattle.lam_job.specs.LoadRange.{LoadInRange}
+use Rattle.lam_wall.specs.declared.wall.Wall.{Wall}
+use Rattle.lam_wall.specs.Assembled.{IsWallOf}
 use Rattle.lam_solve.specs.declared.six.Six.{Six}
 use Rattle.lam_solve.specs.declared.six.Ends.{Ends}
 use Rattle.lam_solve.specs.declared.strains.Guess.{Guess}
+use Rattle.lam_solve.specs.inside.Formulas as formulas
 
 -- ---- a scale, a thickness and a load
 
@@ -23,6 +26,14 @@ pub record IsPosed (scale : Scale) (h : ℤ) (load : Load) : Type 0 where
   pub thick : pos 1 ≤ℤ h
   pub thin : h ≤ℤ pos 1280000
   pub range : LoadInRange scale.floor h load
+
+-- the forces and moments are those of a load in range, on a wall of a catalogue's plies
+pub record AreLoadsOn {A : Type 0} (n : Numbers A) (w : Wall A) (loads : Six A) : Type 0 where
+  pub scale : Scale
+  pub load : Load
+  pub wall : IsWallOf n scale w
+  pub range : LoadInRange scale.floor w.h load
+  pub are : loads ≡ formulas.loads n.calc scale.q0 w.h load
 
 -- ---- sizes, in 64 and in 128 bits
 

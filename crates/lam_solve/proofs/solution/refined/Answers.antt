@@ -7,7 +7,7 @@ pub returns-then-is_settled-clause-strains : goal.returns-then-is_settled-clause
 returns-then-is_settled-clause-strains g c =
     let l = c.loop-left in
     let ends : c.is_settled.result ≡ true = cc in
-    sym (refined-ends g.N.Enclosure.numbers c.args.wall.now c.args.loads.now l.left l.centre.strains l.centre.residual l.invariant.rest (sym c.is_settled.ensures ∙ ends)) ∙ l.invariant.leads
+    sym (refined-ends g.N.Enclosure.numbers 64 c.args.wall.now c.args.loads.now l.left l.centre.strains l.centre.residual l.invariant.rest (sym c.is_settled.ensures ∙ ends)) ∙ l.invariant.leads
 
 pub loop-left-preserved : goal.loop-left-preserved
 loop-left-preserved g c =
@@ -16,9 +16,9 @@ loop-left-preserved g c =
     let loads = c.args.loads.now in
     let l = c.loop-left in
     let goes_on : c.is_settled.result ≡ false = cc in
-    let step = refined-step n w loads l.left l.centre.strains l.centre.residual (omega arith) l.invariant.rest (sym c.is_settled.ensures ∙ goes_on) in
+    let step = refined-step n 64 w loads l.left l.centre.strains l.centre.residual (omega arith) l.invariant.rest (sym c.is_settled.ensures ∙ goes_on) in
     record {
-      leads = ap (refined n w loads (l.left - 1)) c.turned-centre.ensures.strains ∙ sym step ∙ l.invariant.leads;
+      leads = ap (refined n 64 w loads (l.left - 1)) c.turned-centre.ensures.strains ∙ sym step ∙ l.invariant.leads;
       rest = c.turned-centre.ensures.residual;
       guess = c.turned-centre.ensures.guess;
       small = c.turned-centre.ensures.small;
@@ -31,4 +31,4 @@ returns-clause-strains g c =
     let loads = c.args.loads.now in
     let l = c.loop-left in
     let none_left : l.left ≡ 0 = omega arith in
-    sym (ap (λ k. refined n w loads k l.centre.strains) none_left ∙ refined-none n w loads l.centre.strains) ∙ l.invariant.leads
+    sym (ap (λ k. refined n 64 w loads k l.centre.strains) none_left ∙ refined-none n 64 w loads l.centre.strains) ∙ l.invariant.leads

@@ -7,7 +7,7 @@ use Rattle.lam_solve.specs.inside.Elimination.{eliminated, guess}
 use Rattle.lam_solve.specs.inside.Formulas.{loads}
 use Rattle.lam_solve.specs.inside.Parts.{IsPosed}
 use Rattle.lam_solve.specs.inside.Residual.{residual}
-use Rattle.lam_solve.specs.inside.Solution.{refined}
+use Rattle.lam_solve.specs.inside.Solution.{centre}
 use Rattle.lam_solve.proofs.HeldStrains.{enclosed-holds, has-one}
 use Rattle.lam_solve.proofs.Posed.{posed, scaled}
 use Rattle.lam_solve.proofs.solution.solve_by.Goals as goal
@@ -33,12 +33,12 @@ returns-clause-held g c =
     let thickness = is_exact (sized_stored-64 (sized_between is.thick is.thin)) refl in
     let loads-is = c.loads-loads.ensures.value ∙ ap (λ h. loads n.calc scale.q0 h load) thickness in
     let guess-is = c.guess.ensures.value ∙ (λ i. guess n (c.requires.elimination.is i) (loads-is i)) in
-    let strains-is = c.refined-centre.ensures.strains ∙ (λ i. refined n w (loads-is i) 64 (guess-is i)) in
-    let residual-is = c.refined-centre.ensures.residual ∙ (λ i. residual n w (loads-is i) (strains-is i)) in
+    let strains-is = c.centred-centre.ensures.strains ∙ (λ i. centre n w (loads-is i) (guess-is i)) in
+    let residual-is = c.centred-centre.ensures.residual ∙ (λ i. residual n w (loads-is i) (strains-is i)) in
     let enclosed-is = c.enclosed.ensures.value ∙ (λ i. enclosed n scale (strains-is i) (residual-is i)) in
     let start = loads n.calc scale.q0 w.h load in
     λ stock numbers stands. subst (λ s. HoldsEverySolution n s (items_of stock numbers) load) (sym enclosed-is)
-    (enclosed-holds g.met.N.Enclosure.laws stands load c.requires.range (refined n w start 64 (guess n (eliminated n w) start)))
+    (enclosed-holds g.met.N.Enclosure.laws stands load c.requires.range (centre n w start (guess n (eliminated n w) start)))
 
 pub returns-clause-value : goal.returns-clause-value
 returns-clause-value g c =
@@ -50,7 +50,7 @@ returns-clause-value g c =
     let thickness = is_exact (sized_stored-64 (sized_between is.thick is.thin)) refl in
     let loads-is = c.loads-loads.ensures.value ∙ ap (λ h. loads n.calc scale.q0 h load) thickness in
     let guess-is = c.guess.ensures.value ∙ (λ i. guess n (c.requires.elimination.is i) (loads-is i)) in
-    let strains-is = c.refined-centre.ensures.strains ∙ (λ i. refined n w (loads-is i) 64 (guess-is i)) in
-    let residual-is = c.refined-centre.ensures.residual ∙ (λ i. residual n w (loads-is i) (strains-is i)) in
+    let strains-is = c.centred-centre.ensures.strains ∙ (λ i. centre n w (loads-is i) (guess-is i)) in
+    let residual-is = c.centred-centre.ensures.residual ∙ (λ i. residual n w (loads-is i) (strains-is i)) in
     let enclosed-is = c.enclosed.ensures.value ∙ (λ i. enclosed n scale (strains-is i) (residual-is i)) in
     enclosed-is
