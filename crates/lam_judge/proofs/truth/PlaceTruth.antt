@@ -27,7 +27,7 @@ use Rattle.lam_solve.specs.inside.Elimination.{eliminated, guess}
 use Rattle.lam_solve.specs.inside.Formulas.{loads}
 use Rattle.lam_solve.specs.inside.Enclosed.{enclosed, radius}
 use Rattle.lam_solve.specs.inside.Residual.{residual}
-use Rattle.lam_solve.specs.inside.Solution.{refined}
+use Rattle.lam_solve.specs.inside.Solution as solutions
 use Rattle.lam_solve.specs.inside.Steps.{over_up}
 use Rattle.lam_solve.proofs.Around.{around-short}
 use Rattle.lam_solve.proofs.AtFaces.{face-held, face-reach}
@@ -69,7 +69,7 @@ module _ {A : Type 0} {n : Numbers A} (laws : Lawful n) {stock : List Item} {num
   centre : Guess
   centre =
       let w = matrices n (scale_of stock) wall in
-      refined n w (loads n.calc (scale_of stock).q0 w.h load) 64 (guess n (eliminated n w) (loads n.calc (scale_of stock).q0 w.h load))
+      solutions.centre n w (loads n.calc (scale_of stock).q0 w.h load) (guess n (eliminated n w) (loads n.calc (scale_of stock).q0 w.h load))
 
   -- every laminate strain is held
   pub held : HoldsEverySolution n (strains n (scale_of stock) wall load) wall load
