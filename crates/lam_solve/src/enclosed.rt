@@ -46,8 +46,8 @@ pub fn enclose_at<N: Enclosure>(
     Some(enclosed(scale, guess, &residual))
 }
 
-// tells whether each component of a guess is at most 4 in size
-fn is_near<N: Enclosure>(guess: &Guess) -> bool
+/// Tells whether each component of a guess is at most 4 in size.
+pub(crate) fn is_near<N: Enclosure>(guess: &Guess) -> bool
     ensures { result ≡ by.is_near N.numbers guess.now }
 {
     let unit = one_wide::<N>();

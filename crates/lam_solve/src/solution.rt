@@ -61,15 +61,15 @@ pub fn solve_by<N: Enclosure>(
     enclosed(scale, &centre.strains, &centre.residual)
 }
 
-// a centre with its residual
+/// A centre with its residual.
 #[derive(Clone, Copy)]
-struct Centre {
-    strains: Guess,
-    residual: Six<Ends>,
+pub(crate) struct Centre {
+    pub(crate) strains: Guess,
+    pub(crate) residual: Six<Ends>,
 }
 
-// the centre that a guess leads to
-fn centred<N: Enclosure>(wall: &Wall<N>, loads: &Six<N>, guess: Guess) -> Centre
+/// The centre that a guess leads to.
+pub(crate) fn centred<N: Enclosure>(wall: &Wall<N>, loads: &Six<N>, guess: Guess) -> Centre
     requires wall { SmallWall N.numbers wall.now }
     requires loads { SmallLoads N.numbers loads.now }
     requires on { AreLoadsOn N.numbers wall.now loads.now }

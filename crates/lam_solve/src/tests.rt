@@ -4,6 +4,9 @@ ghost use Rattle.std.specs.Prelude.{◌≡◌, ℕ, ◌<◌, ◌≤◌, length, 
 ghost use Rattle.lam_stock.specs.Stock.{IsKnown};
 ghost use Rattle.lam_solve.specs.Solutions.{AreShort};
 
+use crate::enclosed::{enclosed, is_near as is_taken};
+use crate::loads::loads;
+use crate::solution::centred;
 use crate::{Elimination, Guess, Strains, at_face, enclose_at, solve, solve_by};
 use lam_job::Load;
 use lam_number::{Ball, Enclosure, Fix};
@@ -81,6 +84,28 @@ fn solved_by<N: Enclosure>(stock: &Stock, plies: &Stack, load: &Load) -> Option<
     let elimination = Elimination::of(&wall);
     if in_range(&scale, h, load) {
         Some(solve_by(&elimination, &wall, load, &scale))
+    } else {
+        None
+    }
+}
+
+// the same by the centre that another guess leads to
+fn solved_from<N: Enclosure>(
+    stock: &Stock,
+    plies: &Stack,
+    load: &Load,
+    guess: Guess,
+) -> Option<Strains<N>>
+    requires some { 1 ≤ length plies.now }
+    requires known { IsKnown stock.now plies.now }
+{
+    let wall = assemble(stock, plies);
+    let scale = stock.scale();
+    let h = wall.h;
+    if is_taken::<N>(&guess) && in_range(&scale, h, load) {
+        let loads = loads::<N>(load, &scale, h);
+        let centre = centred(&wall, &loads, guess);
+        Some(enclosed(&scale, &centre.strains, &centre.residual))
     } else {
         None
     }
@@ -357,6 +382,65 @@ fn walls_are_solved_up_to_their_limits(rt: HostRuntime) -> Result<(), Fail> {
             assert!(rt; is_near(strains.g, 576_460_752_303_423_488));
         }
         None => assert!(rt; false),
+    }
+    Ok(())
+}
+
+// the softest ply that may stand beside the stiffest, alone, under it and on both sides of it, each twisted to the end of
+// the range: 3/2, then 516/6059 with a shear of -254/6059, and 81/308
+#[test]
+fn twisted_walls_are_solved_from_wherever_turns_start(rt: HostRuntime) -> Result<(), Fail> {
+    let stock = read_stock(rt.alloc(), SPREAD.as_bytes())?;
+    assert!(rt; stock.items().len() == 2);
+    let rows = [
+        (false, false, 3_200_000, 0, 1_729_382_256_910_270_464),
+        (
+            true,
+            false,
+            12_800_000,
+            -48_331_748_171_338_362,
+            98_185_756_127_600_765,
+        ),
+        (true, true, 28_800_000, 0, 303_203_382_705_047_419),
+    ];
+    for (has_second, has_third, moment, shear, twist) in rows {
+        let mut plies = Stack::new(rt.alloc());
+        plies.push(ItemNo(0));
+        if has_second {
+            plies.push(ItemNo(1));
+        }
+        if has_third {
+            plies.push(ItemNo(0));
+        }
+        let load = Load {
+            mxy: moment,
+            ..REST
+        };
+        let twisted = Guess {
+            g: shear,
+            kg: twist,
+            ..NONE
+        };
+        match solved::<Fix<60>>(&stock, &plies, &load) {
+            Some(strains) => assert!(rt; are_near(&strains, &twisted)),
+            None => assert!(rt; false),
+        }
+        let far = Guess {
+            kg: 1 << 62,
+            ..NONE
+        };
+        let close = Guess {
+            ex: 1 << 44,
+            g: shear,
+            kg: twist,
+            ..NONE
+        };
+        for guess in [NONE, far, close] {
+            match solved_from::<Fix<60>>(&stock, &plies, &load, guess) {
+                Some(strains) => assert!(rt; are_near(&strains, &twisted)),
+                None => assert!(rt; false),
+            }
+        }
     }
     Ok(())
 }
