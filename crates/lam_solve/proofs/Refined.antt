@@ -35,7 +35,7 @@ module _ {A : Type 0} (n : Numbers A) (most : ℕ) (w : Wall A) (loads : Six A) 
   refined-ends zero c r e h = refl
   refined-ends (suc k) c r e h = settled_cond (is_settled n most (residual n w loads c)) _ _ (subst (λ t. is_settled n most t ≡ true) e h)
 
-  step : (k : ℕ) (c : Guess) (r : Six Ends) → r ≡ residual n w loads c → is_settled n most r ≡ false → refined n most w loads (suc k) c ≡ refined n most w loads k (turned n c r)
+  pub step : (k : ℕ) (c : Guess) (r : Six Ends) → r ≡ residual n w loads c → is_settled n most r ≡ false → refined n most w loads (suc k) c ≡ refined n most w loads k (turned n c r)
   unfolding refined
   step k c r e h =
       unsettled_cond (is_settled n most (residual n w loads c)) _ _ (subst (λ t. is_settled n most t ≡ false) e h)

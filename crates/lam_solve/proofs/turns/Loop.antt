@@ -1,5 +1,5 @@
 -- The loop of the turns over a narrow wall: where it leads, and that it ends.
-use Rattle.std.proofs.Common.{◌≡◌, refl, sym, ◌∙◌, ap, subst, ℕ, ◌-◌, ◌*◌, ◌<◌, ◌≤◌, Bool, true, false, ◌&&◌, nat_eq, nat_le, List, ◌≤ℤ◌, arith}
+use Rattle.std.proofs.Common.{◌≡◌, refl, sym, ◌∙◌, ap, subst, ℕ, zero, suc, ◌-◌, ◌*◌, ◌<◌, ◌≤◌, Bool, true, false, ◌&&◌, nat_eq, nat_le, List, ◌≤ℤ◌, arith}
 use Rattle.std.proofs.lemmas.Bool.Decides.{nat_tests}
 use Rattle.std.proofs.lemmas.Int.{ints}
 use Rattle.lam_fraction.specs.numbers.Numbers.{Numbers, Lawful}
@@ -21,9 +21,9 @@ use Rattle.lam_solve.specs.inside.Narrow.{is_narrow, is_narrow_entry, is_narrow_
 use Rattle.lam_solve.specs.inside.Parts.{AreLoadsOn}
 use Rattle.lam_solve.specs.inside.Residual.{residual, greatest_middle}
 use Rattle.lam_solve.specs.inside.Settled.{Settled}
-use Rattle.lam_solve.specs.inside.Solution.{is_settled, refined, start, turned}
+use Rattle.lam_solve.specs.inside.Solution.{centre, is_settled, refined, start, turned}
 use Rattle.lam_solve.specs.inside.Turns.{strains, potential, matrix_sums, load_sums, wall_potential, height}
-use Rattle.lam_solve.proofs.Refined.{refined-ends, refined-step}
+use Rattle.lam_solve.proofs.Refined.{refined-ends, refined-step, step, centre-narrow}
 use Rattle.lam_solve.proofs.turns.Starts.{one}
 use Rattle.lam_solve.proofs.turns.WallBounds as bounds
 use Rattle.lam_solve.proofs.turns.WallTurns as walls
@@ -161,3 +161,35 @@ module _ {A : Type 0} (n : Numbers A) (w : Wall A) (loads : Six A) (c : Guess) (
 pub settled-middles : {A : Type 0} (n : Numbers A) (r : Six Ends) → is_settled n (4096 * n.slop) r ≡ true → greatest_middle n r ≤ 4096 * n.slop
 unfolding is_settled
 settled-middles n r h = passed (greatest_middle n r) (4096 * n.slop) h
+
+-- ---- where they end, by the definition
+
+by_test : {X : Type 0} (b : Bool) → (b ≡ true → X) → (b ≡ false → X) → X
+by_test true f g = f refl
+by_test false f g = g refl
+
+module _ {A : Type 0} {n : Numbers A} (laws : Lawful n) {w : Wall A} {loads : Six A} (on : AreLoadsOn n w loads) (narrow : is_narrow n w ≡ true) (g : Guess) where
+  abbrev end : ℕ → Guess → Guess
+  end k c = refined n (4096 * n.slop) w loads k c
+
+  abbrev settled : Guess → Bool
+  settled c = is_settled n (4096 * n.slop) (residual n w loads c)
+
+  abbrev IsEnd : Guess → Type 0
+  IsEnd c = Settled n c (residual n w loads c)
+
+  ended : (k : ℕ) (c : Guess) → Leads n w loads (start n w loads g) c → settled c ≡ true → IsEnd (end k c)
+  ended k c l e = subst IsEnd (sym (refined-ends n (4096 * n.slop) w loads k c (residual n w loads c) refl e))
+      (each-end laws narrow g on c l (settled-middles n (residual n w loads c) e))
+
+  settles : (k : ℕ) (c : Guess) → Leads n w loads (start n w loads g) c → height n w loads c ≤ k → IsEnd (end k c)
+  settles zero c l h = by_test (settled c) (ended zero c l) (λ e. let t = (each-turn laws narrow g on c l e).smaller in absurd (omega (arith, h, t)))
+  settles (suc k) c l h = by_test (settled c) (ended (suc k) c l)
+      (λ e. let t = each-turn laws narrow g on c l e in
+      let few : height n w loads (turned n c (residual n w loads c)) ≤ k = omega (arith, h, t.smaller) in
+      subst IsEnd (sym (step n (4096 * n.slop) w loads k c (residual n w loads c) refl e)) (settles k (turned n c (residual n w loads c)) t.leads few))
+
+  -- the centre that a guess leads to over a narrow wall
+  pub centre-settles : Settled n (centre n w loads g) (residual n w loads (centre n w loads g))
+  centre-settles = subst IsEnd (sym (centre-narrow n w loads g narrow))
+      (settles (height n w loads (start n w loads g)) (start n w loads g) (leads-first (start n w loads g)) (omega arith))
