@@ -78,6 +78,9 @@ pub(crate) fn centred<N: Enclosure>(wall: &Wall<N>, loads: &Six<N>, guess: Guess
     ensures residual { result.residual ≡ by.residual N.numbers wall.now loads.now result.strains }
     ensures small { SmallResidual result.residual }
     ensures settled { is_narrow N.numbers wall.now ≡ true → Settled N.numbers result.strains result.residual }
+    ensures first { is_narrow N.numbers wall.now ≡ true
+        → by.IsFirst N.numbers (4096 * N.numbers.slop) wall.now loads.now
+        (by.start N.numbers wall.now loads.now guess) result.strains }
 {
     if is_narrow(wall) {
         settled(wall, loads, guess)
@@ -99,6 +102,8 @@ fn settled<N: Enclosure>(wall: &Wall<N>, loads: &Six<N>, guess: Guess) -> Centre
     ensures residual { result.residual ≡ by.residual N.numbers wall.now loads.now result.strains }
     ensures small { SmallResidual result.residual }
     ensures settled { Settled N.numbers result.strains result.residual }
+    ensures first { by.IsFirst N.numbers (4096 * N.numbers.slop) wall.now loads.now
+        (by.start N.numbers wall.now loads.now guess) result.strains }
 {
     let most = slops::<N>(4096);
     let mut centre = start(wall, loads, guess);

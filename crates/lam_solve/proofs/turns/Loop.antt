@@ -21,7 +21,7 @@ use Rattle.lam_solve.specs.inside.Narrow.{is_narrow, is_narrow_entry, is_narrow_
 use Rattle.lam_solve.specs.inside.Parts.{AreLoadsOn}
 use Rattle.lam_solve.specs.inside.Residual.{residual, greatest_middle}
 use Rattle.lam_solve.specs.inside.Settled.{Settled}
-use Rattle.lam_solve.specs.inside.Solution.{centre, is_settled, refined, start, turned}
+use Rattle.lam_solve.specs.inside.Solution.{IsFirst, after, centre, first_settled, is_settled, refined, start, turned}
 use Rattle.lam_solve.specs.inside.Turns.{strains, potential, matrix_sums, load_sums, wall_potential, height}
 use Rattle.lam_solve.proofs.Refined.{refined-ends, refined-step, step, centre-narrow}
 use Rattle.lam_solve.proofs.turns.Starts.{one}
@@ -188,6 +188,33 @@ module _ {A : Type 0} {n : Numbers A} (laws : Lawful n) {w : Wall A} {loads : Si
       (λ e. let t = each-turn laws narrow g on c l e in
       let few : height n w loads (turned n c (residual n w loads c)) ≤ k = omega (arith, h, t.smaller) in
       subst IsEnd (sym (step n (4096 * n.slop) w loads k c (residual n w loads c) refl e)) (settles k (turned n c (residual n w loads c)) t.leads few))
+
+  abbrev FirstFrom : Guess → Guess → Type 0
+  FirstFrom c e = IsFirst n (4096 * n.slop) w loads c e
+
+  at-once : (k : ℕ) (c : Guess) → settled c ≡ true → FirstFrom c (end k c)
+  unfolding after
+  at-once k c e = subst (FirstFrom c) (sym (refined-ends n (4096 * n.slop) w loads k c (residual n w loads c) refl e))
+      (record { turns = 0; follows = refl; ends = e; earlier = λ j h. absurd (omega (arith, h)) })
+
+  later : (c x : Guess) → settled c ≡ false → FirstFrom (turned n c (residual n w loads c)) x → FirstFrom c x
+  unfolding after
+  later c x e f = record { turns = suc f.turns; follows = f.follows; ends = f.ends; earlier = each }
+    where
+      each : (j : ℕ) → j < suc f.turns → settled (after n w loads j c) ≡ false
+      each zero h = e
+      each (suc j) h = f.earlier j (omega (arith, h))
+
+  first-of : (k : ℕ) (c : Guess) → Leads n w loads (start n w loads g) c → height n w loads c ≤ k → FirstFrom c (end k c)
+  first-of zero c l h = by_test (settled c) (at-once zero c) (λ e. let t = (each-turn laws narrow g on c l e).smaller in absurd (omega (arith, h, t)))
+  first-of (suc k) c l h = by_test (settled c) (at-once (suc k) c)
+      (λ e. let t = each-turn laws narrow g on c l e in
+      let few : height n w loads (turned n c (residual n w loads c)) ≤ k = omega (arith, h, t.smaller) in
+      later c (end (suc k) c) e (subst (FirstFrom (turned n c (residual n w loads c))) (sym (step n (4096 * n.slop) w loads k c (residual n w loads c) refl e)) (first-of k (turned n c (residual n w loads c)) t.leads few)))
+
+  -- what the number of turns that is allowed leads to is the first centre at which they end
+  pub first-settles : FirstFrom (start n w loads g) (first_settled n w loads (start n w loads g))
+  first-settles = first-of (height n w loads (start n w loads g)) (start n w loads g) (leads-first (start n w loads g)) (omega arith)
 
   -- the centre that a guess leads to over a narrow wall
   pub centre-settles : Settled n (centre n w loads g) (residual n w loads (centre n w loads g))

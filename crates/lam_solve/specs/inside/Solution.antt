@@ -1,6 +1,6 @@
 -- Turns of refinement: the centres are a sequence, each one turn after the one before, and the answer is taken round the
 -- first that needs no further turn. Over a narrow wall this comes, with no bound on the turns.
-use Rattle.std.specs.Prelude.{ℕ, zero, suc, ◌*◌, ◌/◌, ℤ, pos, ◌+ℤ◌, Bool, nat_le, if◌then◌else◌}
+use Rattle.std.specs.Prelude.{◌≡◌, ℕ, zero, suc, ◌*◌, ◌/◌, ◌<◌, ℤ, pos, ◌+ℤ◌, Bool, true, false, nat_le, if◌then◌else◌}
 use Rattle.lam_fraction.specs.numbers.Numbers.{Numbers, unit}
 use Rattle.lam_stock.specs.declared.scale.Scale.{Scale}
 use Rattle.lam_job.specs.declared.load.Load.{Load}
@@ -48,6 +48,19 @@ module _ {A : Type 0} (n : Numbers A) where
       if is_settled most r then c else refined most w loads turns (turned c r)
 
   -- ---- over a narrow wall
+
+  -- the centre after so many turns
+  unfoldable pub after : Wall A → Six A → (turns : ℕ) → Guess → Guess
+  after w loads zero c = c
+  after w loads (suc turns) c = after w loads turns (turned c (residual n w loads c))
+
+  -- of the centres that follow another, each one turn after the one before, this is the first of whose residual no middle
+  -- is more than so many units
+  pub record IsFirst (most : ℕ) (w : Wall A) (loads : Six A) (from first : Guess) : Type 0 where
+    pub turns : ℕ
+    pub follows : first ≡ after w loads turns from
+    pub ends : is_settled most (residual n w loads first) ≡ true
+    pub earlier : (k : ℕ) → k < turns → is_settled most (residual n w loads (after w loads k from)) ≡ false
 
   -- where turns start: the guess where no middle of its residual is more than 1/8192, else no strains
   unfoldable pub start : Wall A → Six A → Guess → Guess

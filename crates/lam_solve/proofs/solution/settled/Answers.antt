@@ -1,8 +1,8 @@
-use Rattle.std.proofs.Common.{◌≡◌, refl, sym, ◌∙◌, subst, true, false}
+use Rattle.std.proofs.Common.{◌≡◌, refl, sym, ◌∙◌, subst, ◌*◌, true, false}
 use Rattle.lam_solve.specs.inside.Residual.{residual}
 use Rattle.lam_solve.specs.inside.Settled.{Settled}
-use Rattle.lam_solve.specs.inside.Solution.{start}
-use Rattle.lam_solve.proofs.turns.Loop.{Leads, each-turn, each-end, leads-first, leads-end, tested, next-leads, next-smaller, settled-middles}
+use Rattle.lam_solve.specs.inside.Solution.{IsFirst, start}
+use Rattle.lam_solve.proofs.turns.Loop.{Leads, each-turn, each-end, leads-first, leads-end, tested, next-leads, next-smaller, settled-middles, first-settles}
 use Rattle.lam_solve.proofs.solution.settled.Goals as goal
 
 pub loop-centre-init : goal.loop-centre-init
@@ -68,3 +68,15 @@ returns-clause-settled g c =
     subst (Settled n at) (sym l.invariant.rest)
     (each-end g.met.N.Enclosure.laws c.requires.narrow c.args.guess c.requires.on at l.invariant.leads
     (settled-middles n (residual n w loads at) (tested n w loads at l.centre.residual l.invariant.rest true c.slops-most.result l.invariant.most (sym c.is_settled.ensures ∙ done))))
+
+pub returns-clause-first : goal.returns-clause-first
+returns-clause-first g c =
+    let n = g.N.Enclosure.numbers in
+    let w = c.args.wall.now in
+    let loads = c.args.loads.now in
+    let l = c.loop-centre in
+    let at = l.centre.strains in
+    let done : c.is_settled.result ≡ true = cc in
+    let is = leads-end (start n w loads c.args.guess) at (residual n w loads at) l.invariant.leads refl
+    (tested n w loads at l.centre.residual l.invariant.rest true c.slops-most.result l.invariant.most (sym c.is_settled.ensures ∙ done)) in
+    subst (IsFirst n (4096 * n.slop) w loads (start n w loads c.args.guess)) (sym is) (first-settles g.met.N.Enclosure.laws c.requires.on c.requires.narrow c.args.guess)
