@@ -30,7 +30,7 @@ half-unit s h = by_half (2 ^ s) (2 ^ (s - 1)) (let e : s ≡ suc (s - 1) = omega
 -- ---- round a centre
 
 module _ {A : Type 0} {n : Numbers A} (laws : Lawful n) where
-  end_room : (z : ℤ) → RatioRoom (cut (pos (5 * unit n / 2)) z) (pos (unit n))
+  pub end_room : (z : ℤ) → RatioRoom (cut (pos (5 * unit n / 2)) z) (pos (unit n))
   end_room z =
       let size = cut_size (5 * unit n / 2) z in
       let most = unit_most laws in

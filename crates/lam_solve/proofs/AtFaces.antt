@@ -16,13 +16,13 @@ use Rattle.lam_solve.proofs.Reach.{short_reaches, place_part, place_room}
 use Rattle.lam_solve.proofs.energy.FaceStrains.{face-x, face-y, face-s}
 
 module _ {A : Type 0} {n : Numbers A} (laws : Lawful n) where
-  bent_room : (k : A) {z : A} → IsShort n k → IsPart n z → ProductRoom n k z
+  pub bent_room : (k : A) {z : A} → IsShort n k → IsPart n z → ProductRoom n k z
   bent_room k h p = product_within laws (short_reaches laws h) p (omega arith)
 
   bent_reach : (k : A) {z : A} → IsShort n k → IsPart n z → Reaches n (over_up (sixteenths 44 * (sixteenths 16 + 4)) (2 ^ 28) + 4) (n.calc.product k z)
   bent_reach k h p = reaches_product laws (short_reaches laws h) p (omega arith)
 
-  bending_room : (e k : A) {z : A} → IsShort n e → IsShort n k → IsPart n z → SumRoom n e (n.calc.product k z)
+  pub bending_room : (e k : A) {z : A} → IsShort n e → IsShort n k → IsPart n z → SumRoom n e (n.calc.product k z)
   bending_room e k h l p = sum_within laws (short_reaches laws h) (bent_reach k l p) (omega arith)
 
   bending_reach : (e k : A) {z : A} → IsShort n e → IsShort n k → IsPart n z → reach n (with_bending n.calc e k z) ≤ 6 * unit n

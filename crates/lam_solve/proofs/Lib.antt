@@ -18,6 +18,8 @@ pub mod Around
 pub mod AtFaces
 -- so every laminate strain is held
 pub mod HeldStrains
+-- how wide strains are
+pub mod widths
 -- steps of the elimination
 pub mod Eliminated
 -- turns of refinement

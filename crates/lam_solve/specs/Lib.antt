@@ -2,5 +2,7 @@
 pub mod StrainBounds
 -- what enclosed strains hold, and how far they reach
 pub mod Solutions
+-- how wide they are
+pub mod Widths
 -- values, and what calls need on the way
 pub mod inside

@@ -4,11 +4,13 @@ ghost use Rattle.std.specs.Prelude.{◌≡◌, ◌↔◌, ◌*◌, ◌/◌, ◌^
 ghost use Rattle.lam_fraction.specs.numbers.Numbers.{unit};
 ghost use Rattle.lam_fraction.specs.inside.Size.{AtMost};
 ghost use Rattle.lam_job.specs.LoadRange.{LoadInRange};
-ghost use Rattle.lam_wall.specs.Assembled.{IsWallOf};
+ghost use Rattle.lam_wall.specs.Assembled.{IsWallOf, NarrowWall};
 ghost use Rattle.lam_solve.specs.StrainBounds.{OneStrain};
 ghost use Rattle.lam_solve.specs.Solutions.{AreShort, ForEachWall, HasComponentAbove, HoldsEverySolution, IsShort};
+ghost use Rattle.lam_solve.specs.Widths.{AreNarrow, AreNarrowByScale};
 ghost use Rattle.lam_solve.specs.inside.Enclosed as by;
 ghost use Rattle.lam_solve.specs.inside.Parts.{IsScaled, SmallResidual};
+ghost use Rattle.lam_solve.specs.inside.Settled.{Settled};
 
 use crate::loads::loads;
 use crate::residual::residual;
@@ -22,7 +24,8 @@ use lam_stock::Scale;
 use lam_wall::Wall;
 
 /// The strains of a wall under a load, round a guess. None exactly where a component of the guess is more than 4 in size.
-/// However far off the guess is, every laminate strain lies in the answer; the nearer it is, the narrower the answer.
+/// However far off the guess is, every laminate strain lies in the answer; the nearer it is, the narrower the answer. Where
+/// the guess is settled, so that its residual is next to none, the answer is as narrow as the softest layer lets it.
 pub fn enclose_at<N: Enclosure>(
     wall: &Wall<N>,
     load: &Load,
@@ -36,6 +39,12 @@ pub fn enclose_at<N: Enclosure>(
     ensures held { IfSome result (λ strains.
         ForEachWall N.numbers wall.now scale.now (λ plies. HoldsEverySolution N.numbers strains plies load.now)) }
     ensures short { IfSome result (AreShort N.numbers) }
+    ensures width { IfSome result (λ strains. NarrowWall 512 N.numbers wall.now
+        → Settled N.numbers guess.now (by.residual_at N.numbers wall.now load.now scale.now guess.now)
+        → AreNarrowByScale N.numbers scale.now strains) }
+    ensures narrow { IfSome result (λ strains. NarrowWall 512 N.numbers wall.now
+        → Settled N.numbers guess.now (by.residual_at N.numbers wall.now load.now scale.now guess.now)
+        → AreNarrow N.numbers strains) }
     ensures value { result ≡ by.enclosed_at N.numbers wall.now load.now scale.now guess.now }
 {
     if !is_near::<N>(guess) {

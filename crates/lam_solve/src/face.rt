@@ -3,6 +3,7 @@
 ghost use Rattle.std.specs.Prelude.{◌≡◌, pos, neg_ℤ, ◌≤ℤ◌};
 ghost use Rattle.lam_job.specs.LaminateStrain.{LaminateStrain, strain_at};
 ghost use Rattle.lam_solve.specs.Solutions.{AreShort, HoldsAtFace, HoldsStrains, IsShort, ReachesSix};
+ghost use Rattle.lam_solve.specs.Widths.{AreNarrow, IsNarrowFace, WidenedByBending};
 ghost use Rattle.lam_solve.specs.inside.Formulas as by;
 ghost use Rattle.lam_solve.specs.inside.Parts.{IsPart};
 
@@ -19,6 +20,8 @@ pub fn at_face<N: Enclosure>(strains: &Strains<N>, place: i64, h: i64) -> FaceSt
     ensures held { (f : LaminateStrain) → HoldsStrains N.numbers strains.now h f
         → HoldsAtFace N.numbers result (strain_at f place) }
     ensures reach { ReachesSix N.numbers result }
+    ensures width { WidenedByBending N.numbers strains.now result }
+    ensures narrow { AreNarrow N.numbers strains.now → IsNarrowFace N.numbers result }
     ensures value { result ≡ by.at_face N.numbers.calc strains.now place h }
 {
     let z = N::of_ratio(i128::from(place), i128::from(h));

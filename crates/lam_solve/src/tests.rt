@@ -154,6 +154,12 @@ fn is_near<N: Enclosure>(x: N, at: i64) -> bool {
     holds(x, at) && x.high().saturating_sub(x.low()) <= 1_000_000_000
 }
 
+// tells whether an enclosure is at least so many units wide, and not much more
+fn is_wide(x: Fix<60>, least: i64) -> bool {
+    let width = x.high().saturating_sub(x.low());
+    least <= width && width.saturating_sub(least) <= 25_000
+}
+
 // tells whether all six are so near
 fn are_near<N: Enclosure>(strains: &Strains<N>, at: &Guess) -> bool {
     is_near(strains.ex, at.ex)
@@ -481,6 +487,41 @@ fn a_guess_may_be_as_far_off_as_four(rt: HostRuntime) -> Result<(), Fail> {
                 assert!(rt; holds(strains.ky, -1_257_732_550_480_197));
             }
             None => assert!(rt; !is_taken),
+        }
+    }
+    Ok(())
+}
+
+// A guess that is off by 2^21 units of a strain of 1/256, or by 3·2^23 of a twist of 1/3072, leaves 8192 units: 4096 slops.
+// Times 512 that is a radius of 2^22.
+#[test]
+fn strains_are_as_wide_as_the_residual_and_the_softest_layer_let_them(
+    rt: HostRuntime,
+) -> Result<(), Fail> {
+    let spread = read_stock(rt.alloc(), SPREAD.as_bytes())?;
+    assert!(rt; spread.items().len() == 2);
+    let mut weak = Stack::new(rt.alloc());
+    weak.push(ItemNo(0));
+    let rows = [
+        Guess {
+            ex: 1 << 21,
+            ..NONE
+        },
+        Guess {
+            kg: -3 << 23,
+            ..NONE
+        },
+    ];
+    for guess in rows {
+        let strains: Option<Strains<Fix<60>>> = round(&spread, &weak, &REST, &guess);
+        match strains {
+            Some(strains) => {
+                assert!(rt; is_wide(strains.ex, 5 << 22) && is_wide(strains.ey, 5 << 22));
+                assert!(rt; is_wide(strains.g, 8 << 22));
+                assert!(rt; is_wide(strains.kx, 10 << 22) && is_wide(strains.ky, 10 << 22));
+                assert!(rt; is_wide(strains.kg, 16 << 22));
+            }
+            None => assert!(rt; false),
         }
     }
     Ok(())

@@ -49,6 +49,10 @@ module _ {A : Type 0} (n : Numbers A) where
   abbrev pub is_near : Guess → Bool
   is_near c = nat_le (guess_size c) (4 * unit n)
 
+  -- the residual of a guess under a load
+  abbrev pub residual_at : Wall A → Load → Scale → Guess → Six Ends
+  residual_at w load scale c = residual n w (formulas.loads n.calc scale.q0 w.h load) c
+
   abbrev pub enclosed_at : Wall A → Load → Scale → Guess → Option (Strains A)
   enclosed_at w load scale c =
-      if is_near c then Some (enclosed scale c (residual n w (formulas.loads n.calc scale.q0 w.h load) c)) else None
+      if is_near c then Some (enclosed scale c (residual_at w load scale c)) else None

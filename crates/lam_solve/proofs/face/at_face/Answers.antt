@@ -2,12 +2,14 @@ use Rattle.std.proofs.Common.{refl, sym, ◌∙◌, ap, ap₂, subst}
 use Rattle.lam_fraction.proofs.numbers.Machine.{is_exact, sized_stored-128, sized_result}
 use Rattle.lam_job.specs.LaminateStrain.{strain_at}
 use Rattle.lam_solve.specs.Solutions.{HoldsAtFace, ReachesSix}
+use Rattle.lam_solve.specs.Widths.{WidenedByBending}
 use Rattle.lam_solve.specs.inside.Parts.{IsPart}
 use Rattle.lam_solve.specs.inside.Formulas.{with_bending}
 use Rattle.lam_solve.proofs.AtFaces.{face-held, face-reach, same_strains}
 use Rattle.lam_solve.proofs.Machine.{sized_ranged, wide_small}
 use Rattle.lam_solve.proofs.Posed.{room-as}
 use Rattle.lam_solve.proofs.Reach.{place_part, place_room}
+use Rattle.lam_solve.proofs.widths.NarrowFaces.{face-wide, narrow-face}
 use Rattle.lam_solve.proofs.face.at_face.Goals as goal
 
 pub of_ratio-z-requires : goal.of_ratio-z-requires
@@ -47,3 +49,11 @@ pub returns-clause-reach : goal.returns-clause-reach
 returns-clause-reach g c =
     subst (ReachesSix g.N.Enclosure.numbers) (sym (returns-clause-value g c))
     (face-reach g.met.N.Enclosure.laws c.args.strains.now c.args.place c.args.h c.requires.thick c.requires.inner c.requires.outer (wide_small _ c.ranges.h) c.requires.strains)
+
+pub returns-clause-width : goal.returns-clause-width
+returns-clause-width g c =
+    subst (WidenedByBending g.N.Enclosure.numbers c.args.strains.now) (sym (returns-clause-value g c))
+    (face-wide g.met.N.Enclosure.laws c.args.strains.now c.args.place c.args.h c.requires.thick c.requires.inner c.requires.outer (wide_small _ c.ranges.h) c.requires.strains)
+
+pub returns-clause-narrow : goal.returns-clause-narrow
+returns-clause-narrow g c = narrow-face (returns-clause-width g c)
