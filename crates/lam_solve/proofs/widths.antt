@@ -10,3 +10,5 @@ pub mod NarrowStrains
 pub mod NarrowFaces
 -- the bounds tried on numbers
 pub mod WidthTrials
+-- so it is of a wall that is solved
+pub mod Solved

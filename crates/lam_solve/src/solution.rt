@@ -3,9 +3,10 @@
 ghost use Rattle.std.specs.Prelude.{◌≡◌, ◌*◌, ◌^◌, ◌≤◌, unsigned_abs, true};
 ghost use Rattle.lam_fraction.specs.inside.Size.{AtMost};
 ghost use Rattle.lam_job.specs.LoadRange.{LoadInRange};
-ghost use Rattle.lam_wall.specs.Assembled.{IsWallOf, SmallWall};
+ghost use Rattle.lam_wall.specs.Assembled.{IsWallOf, NarrowWall, SmallWall};
 ghost use Rattle.lam_solve.specs.StrainBounds.{OneStrain};
 ghost use Rattle.lam_solve.specs.Solutions.{AreShort, ForEachWall, HoldsEverySolution};
+ghost use Rattle.lam_solve.specs.Widths.{AreNarrow, AreNarrowByScale};
 ghost use Rattle.lam_solve.specs.inside.Elimination.{IsEliminationOf};
 ghost use Rattle.lam_solve.specs.inside.Narrow.{is_narrow};
 ghost use Rattle.lam_solve.specs.inside.Parts.{AreLoadsOn, SmallEnds, SmallGuess, SmallLoads, SmallResidual};
@@ -29,13 +30,18 @@ use lam_wall::Wall;
 /// Over a wall that is not narrow a centre is refined so many times at most.
 const TURNS: u32 = 64;
 
-/// The strains of a wall under a load. Every laminate strain lies in the answer.
+/// The strains of a wall under a load. Every laminate strain lies in the answer, which over the finer scale is as narrow as
+/// the softest layer of the catalogue lets it.
 pub fn solve<N: Enclosure>(wall: &Wall<N>, load: &Load, scale: &Scale) -> Strains<N>
     requires range { LoadInRange scale.now.floor wall.now.h load.now }
     requires wall { IsWallOf N.numbers scale.now wall.now }
     ensures one { ForEachWall N.numbers wall.now scale.now (λ plies. OneStrain plies load.now) }
     ensures held { ForEachWall N.numbers wall.now scale.now (λ plies. HoldsEverySolution N.numbers result plies load.now) }
     ensures short { AreShort N.numbers result }
+    ensures width { N.numbers.scale ≡ 60 → NarrowWall 512 N.numbers wall.now
+        → AreNarrowByScale N.numbers scale.now result }
+    ensures narrow { N.numbers.scale ≡ 60 → NarrowWall 512 N.numbers wall.now
+        → AreNarrow N.numbers result }
     ensures value { result ≡ by.solution N.numbers wall.now load.now scale.now }
 {
     solve_by(&Elimination::of(wall), wall, load, scale)
@@ -54,6 +60,10 @@ pub fn solve_by<N: Enclosure>(
     ensures one { ForEachWall N.numbers wall.now scale.now (λ plies. OneStrain plies load.now) }
     ensures held { ForEachWall N.numbers wall.now scale.now (λ plies. HoldsEverySolution N.numbers result plies load.now) }
     ensures short { AreShort N.numbers result }
+    ensures width { N.numbers.scale ≡ 60 → NarrowWall 512 N.numbers wall.now
+        → AreNarrowByScale N.numbers scale.now result }
+    ensures narrow { N.numbers.scale ≡ 60 → NarrowWall 512 N.numbers wall.now
+        → AreNarrow N.numbers result }
     ensures value { result ≡ by.solution N.numbers wall.now load.now scale.now }
 {
     let loads = loads(load, scale, wall.h);
