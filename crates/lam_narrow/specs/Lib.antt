@@ -1,0 +1,2 @@
+-- near strains, and how far their values are apart
+pub mod Close
