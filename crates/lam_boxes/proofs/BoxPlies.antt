@@ -35,6 +35,9 @@ module _ (stock : List Item) (numbers : List ItemNo) (t : BoxTables) (is : IsSto
   abbrev pub ply-item : Item
   ply-item = found.0
 
+  pub ply-stands : slice_get stock ply.0 ≡ Some ply-item
+  ply-stands = found.1
+
   pub ply-listed : slice_get (items_of stock numbers) k ≡ Some ply-item
   ply-listed = items_of-get stock k numbers ply known there ∙ found.1
 

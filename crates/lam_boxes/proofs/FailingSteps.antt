@@ -1,7 +1,10 @@
 -- The first place that fails, ply by ply.
-use Rattle.std.proofs.Common.{◌≡◌, refl, sym, ◌∙◌, ap, ℕ, zero, suc, ◌+◌, ◌≤◌, ℤ, Bool, true, false, List, [], ◌∷◌, length, drop, slice_get, Option, Some, None, arith}
+use Rattle.std.proofs.Common.{◌≡◌, refl, sym, ◌∙◌, ap, ℕ, zero, suc, ◌+◌, ◌<◌, ◌≤◌, ℤ, Bool, true, false, List, [], ◌∷◌, length, drop, get_or, set, replicate, slice_get, Option, Some, None, arith}
 use Rattle.std.specs.Bool.{then_some}
 use Rattle.std.specs.Prelude.{if◌then◌else◌}
+use Rattle.std.proofs.Common.{inl, inr}
+use Rattle.std.proofs.lemmas.Bool.{cases_eq}
+use Rattle.std.proofs.lemmas.List.{get_or-set_other}
 use Rattle.std.proofs.lemmas.Option.{same_Some}
 use Rattle.lam_fraction.specs.numbers.Numbers.{Numbers}
 use Rattle.lam_number.specs.declared.strength.FaceStrain.{FaceStrain}
@@ -70,3 +73,23 @@ module _ (case : ℕ) (of : Item → Option Side) where
 
   pub first-none : (items : List Item) (k : ℕ) → length items ≤ k → None ≡ first_failing case of k (drop k items)
   first-none items k h = sym (ap (first_failing case of k) (past items k h) ∙ step-end k)
+
+-- ---- which items are known not to fail
+
+module _ (stock : List Item) (of : Item → Option Side) where
+  -- the items that a table has passed do not fail
+  abbrev pub DoNotFail : List Bool → Type 0
+  DoNotFail passed = (m : ℕ) (i : Item) → slice_get stock m ≡ Some i → get_or passed m false ≡ true → of i ≡ None
+
+  pub none-passed : (n : ℕ) → DoNotFail (replicate n false)
+  none-passed n m i there is = absurd (let no : false ≡ true = sym (none n m) ∙ is in cc) where
+    none : (n m : ℕ) → get_or (replicate n false) m false ≡ false
+    none zero m = refl
+    none (suc n) zero = refl
+    none (suc n) (suc m) = none n m
+
+  pub one-passed : (passed : List Bool) (k : ℕ) (i : Item) → k < length passed → slice_get stock k ≡ Some i → of i ≡ None → DoNotFail passed → DoNotFail (set passed k true)
+  one-passed passed k i within there none before m j at is = elim (cases_eq m k) [
+    | inl same ↦ ap of (same_Some j i (sym at ∙ ap (slice_get stock) same ∙ there)) ∙ none
+    | inr other ↦ before m j at (sym (get_or-set_other passed k m true false other) ∙ is)
+  ]

@@ -36,15 +36,19 @@ pub(crate) fn first_failing(
 {
     let _scale = stock.scale();
     let plies = prefix.items();
+    let mut passed = [false; 64]; // items that do not fail: all plies of one are strained alike
     for k in 0..plies.len() {
-        let criterion = &tables.criteria[plies[k].0 as usize];
-        if let Some(side) = failing_side(criterion, at, factor) {
-            return Some(Place {
-                case,
-                ply: k as u8,
-                face: FaceSide::Inner,
-                side,
-            });
+        let item = plies[k].0 as usize;
+        if !passed[item] {
+            if let Some(side) = failing_side(&tables.criteria[item], at, factor) {
+                return Some(Place {
+                    case,
+                    ply: k as u8,
+                    face: FaceSide::Inner,
+                    side,
+                });
+            }
+            passed[item] = true;
         }
     }
     None
