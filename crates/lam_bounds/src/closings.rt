@@ -20,8 +20,8 @@ use lam_rules::Partial;
 use lam_stock::Stock;
 use lam_support::Weight;
 
-/// The first case and tried weight, by case and then in the order of the weights, with which a
-/// balance of forces shows that the plies of no completion can carry the load.
+/// A case and tried weight with which a balance of forces shows that the plies of no completion
+/// can carry the load, if there is one. Where several do, no clause says which of them it is.
 pub fn first_short(
     job: &Job,
     stock: &Stock,
@@ -106,8 +106,8 @@ fn is_never_short(
     true
 }
 
-/// The first case and tried weight, by case and then in the order of the weights, with which a
-/// balance of forces shows that what carries the load costs no less than a limit.
+/// A case and tried weight with which a balance of forces shows that what carries the load costs
+/// no less than a limit, if there is one. Where several do, no clause says which of them it is.
 pub fn first_dear(
     job: &Job,
     stock: &Stock,

@@ -94,7 +94,7 @@ fn reaches(cost: u64, incumbent: Option<u64>) -> bool
     }
 }
 
-// the first case and tried weight by which no completion can carry the load
+// a case and tried weight by which no completion can carry the load
 fn short_at(design: &Design, fixed: &Fixed, partial: &Partial, hints: Hints) -> Option<(u8, Weight)>
     requires ready { IsReady design.now }
     requires partial { IsPartial design.now.stock.now design.now.job.now partial.now }
@@ -116,7 +116,7 @@ fn short_at(design: &Design, fixed: &Fixed, partial: &Partial, hints: Hints) -> 
     first_short(design.job, design.stock, design.bounds, fixed, partial)
 }
 
-// the first case and tried weight by which what carries the load costs no less than the incumbent
+// a case and tried weight by which what carries the load costs no less than the incumbent
 fn dear_at(
     design: &Design,
     fixed: &Fixed,
