@@ -22,8 +22,8 @@ use lam_judge::{Room, Tables, ratios_by};
 use lam_stock::{Stack, Stock};
 use lam_tree::{Answer, Best, Ratios, Word};
 
-/// Checks the best schedule, if there is one, line by line from line 4 on. The room is filled with
-/// its ratios.
+/// Checks the best schedule, if there is one, line by line from line 4 on. The room is lent
+/// for its ratios.
 pub fn check_best(
     job: &Job,
     stock: &Stock,

@@ -31,7 +31,7 @@ use lam_stock::Stock;
 use lam_tree::{Head, Report};
 
 /// Checks a report: its best schedule line by line, the named one, the lines of its tree in order,
-/// its budget, and its answer. The room is filled with the ratios of the best schedule. An accepted
+/// its budget, and its answer. The room is lent for the ratios of the best schedule. An accepted
 /// report keeps its promise, where a straddling leaf says only that its schedule is judged so.
 pub fn check(
     job: &Job,

@@ -29,8 +29,8 @@ pub enum Refusal {
     Cause(CheckFault),
 }
 
-/// Checks the report that bytes spell, as it stands there: no tree is built. The room is filled
-/// with the ratios of the best schedule. Memory is taken for the lists before the tree alone.
+/// Checks the report that bytes spell, as it stands there: no tree is built. The room is lent
+/// for the ratios of the best schedule. Memory is taken for the lists before the tree alone.
 pub fn check_bytes(
     alloc: Global,
     job: &Job,
