@@ -10,6 +10,9 @@ use std::alloc::Global;
 use std::process::Abort;
 use std::test::Fail;
 
+// Reports altered line by line.
+mod alike;
+
 const CATALOGUE: &[u8] = b"name,kind,e1,e2,n12,g12,xt,xc,yt,yc,s,f12,t,p,q,h,cost
 mat,ply,10000,10000,0,5000,100000,100000,100000,100000,50000,0,5000,1,0,1,10
 ";
