@@ -14,6 +14,8 @@ use std::test::Fail;
 
 // What a box of strains closes.
 mod boxes;
+// Guides that are of no help.
+mod guides;
 
 const CATALOGUE: &str = "name,kind,e1,e2,n12,g12,xt,xc,yt,yc,s,f12,t,p,q,h,cost
 mat,ply,10000,10000,0,5000,100000,100000,100000,100000,50000,0,5000,1,0,1,10
