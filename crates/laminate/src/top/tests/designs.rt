@@ -235,7 +235,8 @@ fn equal_items_cost_the_same_whichever_is_taken(rt: HostRuntime) -> Result<(), F
         " --nodes 100",
         many.as_str(),
         eight.as_str(),
-        "budget 100\nanswer least\ncost 60",
+        "budget 100\nanswer least\ncost 60\nschedule m1 m1 m1 m1 m1 m1\nratio 1 1 5.454\nratio 1 2 5.454\n\
+ratio 1 3 5.454\nratio 1 4 5.454\nratio 1 5 5.454\nratio 1 6 5.454\nnodes 56",
     )
 }
 
