@@ -24,7 +24,7 @@ use crate::status::Status;
 use lam_guide::{Cheapest, Guide, Learner, Thickest};
 use lam_outside::{HostFiles, HostSink};
 use std::alloc::{AllocError, Global};
-use std::env;
+use std::env::{self, Args};
 use std::io::ErrorKind;
 use std::process::ExitCode;
 
@@ -34,7 +34,7 @@ const NO_WORDS: u8 = 8;
 fn main(rt: HostRuntime) -> ExitCode {
     let alloc = rt.alloc();
     let words = match env::args(&rt) {
-        Ok(args) => args.skip(1).collect::<Vec<String>>(alloc),
+        Ok(args) => words_of(alloc, args),
         Err(error) if error.kind() == ErrorKind::OutOfMemory => Err(AllocError),
         Err(_) => return ExitCode::from(NO_WORDS),
     };
@@ -45,6 +45,16 @@ fn main(rt: HostRuntime) -> ExitCode {
         Ok(status) => ExitCode::from(status as u8),
         Err(_) => ExitCode::from(Status::Memory as u8),
     }
+}
+
+/// The words behind the program's own name, one by one: each growth that is refused is a want of
+/// memory.
+fn words_of(alloc: Global, args: Args<Global>) -> Result<Vec<String>, AllocError> {
+    let mut words = Vec::new(alloc);
+    for word in args.skip(1) {
+        words.push(word)?;
+    }
+    Ok(words)
 }
 
 /// Boxes the three guides, and does what the words ask for.
