@@ -7,7 +7,7 @@ use Rattle.lam_stock.specs.PlyLaw.{reduced_11, reduced_12, reduced_22, reduced_6
 use Rattle.lam_job.proofs.Worked.{square, long, two_mats}
 use Rattle.lam_job.specs.Near.{just_above}
 use Rattle.lam_job.specs.Plate.{buckling_load, panel_load}
-use Rattle.lam_plate.specs.NearFactor.{past_ratio}
+use Rattle.lam_sharp.specs.NearOne.{past_ratio}
 use Rattle.lam_plate.specs.Panels.{StandsAbove, BucklesBelow}
 use Rattle.lam_plate.specs.inside.Formulas.{rises_from}
 

@@ -12,7 +12,7 @@ ghost use Rattle.lam_job.specs.Near.{NearFactor};
 ghost use Rattle.lam_job.specs.Ranges.{IsFrom, IsPanel};
 ghost use Rattle.lam_job.specs.Rules.{IsSlanted};
 ghost use Rattle.lam_job.specs.Schedule.{wall_of};
-ghost use Rattle.lam_plate.specs.NearFactor.{past_ratio};
+ghost use Rattle.lam_sharp.specs.NearOne.{past_ratio};
 ghost use Rattle.lam_plate.specs.Panels.{BucklesBelow, IsFitWall};
 
 use crate::{panel_verdict, printed_panel, printed_panel_ends, straddles_near_factor};

@@ -2,3 +2,5 @@
 pub mod NearOne
 -- what they say of the places of a wall
 pub mod NearPlaces
+-- printed ratios that are sharp
+pub mod SharpRatios

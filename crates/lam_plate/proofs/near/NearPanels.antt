@@ -20,7 +20,8 @@ use Rattle.lam_job.specs.Schedule.{items_of, wall_of}
 use Rattle.lam_wall.specs.declared.wall.Wall.{Wall}
 use Rattle.lam_wall.specs.Assembled.{StandsFor}
 use Rattle.lam_plate.specs.Panels.{BucklesBelow, StandsForFit}
-use Rattle.lam_plate.specs.NearFactor.{IsFine, past_ratio}
+use Rattle.lam_plate.specs.NearFactor.{IsFine}
+use Rattle.lam_sharp.specs.NearOne.{past_ratio}
 use Rattle.lam_plate.specs.declared.plate.Plate.{Plate}
 use Rattle.lam_plate.specs.inside.Formulas as by
 use Rattle.lam_plate.proofs.PanelFacts as Facts
@@ -71,7 +72,7 @@ module _ {A : Type 0} {n : Numbers A} (laws : Lawful n) {w : Wall A} (fine : IsF
       let one = one-not_met n at (by.load_at at r) at.waves h in
       (one.0, one.1, not_met-load laws fine.scale k fine.narrow p panel one.0 one.1 (few-waves one.0 one.2) r some one.3)
 
-  not-failed : (r : ℤ) → pos 1 ≤ℤ r → ¬ (by.panel_verdict n scale.q0 w p r ≡ Fails) → PanelAtLeast wall p (just_below r)
+  pub not-failed : (r : ℤ) → pos 1 ≤ℤ r → ¬ (by.panel_verdict n scale.q0 w p r ≡ Fails) → PanelAtLeast wall p (just_below r)
   not-failed r some h =
       Facts.every-least laws k p panel (panel_load p (just_below r)) (λ i some_i few. elim (each-not_failed n at (by.load_at at r) at.waves h i some_i few) [
         | inl met ↦ below-load (buckling_load wall p i) p r (parts_below (panel_load p (whole r)) (buckling_load wall p i) load-least (Facts.stands-at laws k p panel i some_i (few-waves i few) r r_least met))
@@ -84,13 +85,13 @@ module _ {A : Type 0} {n : Numbers A} (laws : Lawful n) {w : Wall A} (fine : IsF
       load-least : whole (pos 0) ≤ℚ panel_load p (whole r)
       load-least = whole_at_most r_least *ₙ weaken (thousandth_above p panel)
 
-  near : (r : ℤ) → pos 1 ≤ℤ r → by.panel_verdict n scale.q0 w p r ≡ Straddles → NearFactor wall p r
+  pub near : (r : ℤ) → pos 1 ≤ℤ r → by.panel_verdict n scale.q0 w p r ≡ Straddles → NearFactor wall p r
   near r some e = record {
     stands = not-failed r some (λ (f : by.panel_verdict n scale.q0 w p r ≡ Fails). absurd (cc));
     buckles = not-met r some (λ (f : by.panel_verdict n scale.q0 w p r ≡ Meets). absurd (cc));
   }
 
-  past : by.printed_panel n scale.q0 w p < 20000 → BucklesBelow wall p (past_ratio (pos (by.printed_panel n scale.q0 w p)))
+  pub past : by.printed_panel n scale.q0 w p < 20000 → BucklesBelow wall p (past_ratio (pos (by.printed_panel n scale.q0 w p)))
   past less =
       let r = by.printed_panel n scale.q0 w p in
       let one = not-met (pos (r + 1)) (omega (arith, ints)) (printed-next laws k p panel less) in

@@ -1,7 +1,8 @@
 use Rattle.std.proofs.Common.{refl, sym, ◌∙◌, ap, subst, ℕ, pos, ◌<◌}
 use Rattle.lam_number.specs.inside.FixNumbers.{fix_numbers}
 use Rattle.lam_job.specs.Schedule.{wall_of}
-use Rattle.lam_plate.specs.NearFactor.{IsFine, past_ratio}
+use Rattle.lam_plate.specs.NearFactor.{IsFine}
+use Rattle.lam_sharp.specs.NearOne.{past_ratio}
 use Rattle.lam_plate.specs.Panels.{IsFitWall, BucklesBelow}
 use Rattle.lam_plate.specs.inside.Formulas as by
 use Rattle.lam_plate.proofs.tests.ended.Goals as goal
