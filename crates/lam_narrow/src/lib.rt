@@ -4,4 +4,4 @@
 // the laws, as contracts of functions that do nothing
 mod laws;
 
-pub use laws::values_are_close;
+pub use laws::{not_met_is_nearly_one, straddles_in_band, straddles_near_one, values_are_close};
