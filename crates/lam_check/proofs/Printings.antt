@@ -1,16 +1,14 @@
 -- Printed ratios, line by line, and what they say.
-use Rattle.std.proofs.Common.{◌≡◌, ◌≢◌, refl, sym, ◌∙◌, ap, subst, ℕ, zero, suc, ◌+◌, ◌*◌, ◌/◌, ◌%◌, ◌<◌, pos, inl, inr, List, [], ◌∷◌, length, drop, get_or, slice_get, Option, Some, None, MatchOption, arith}
+use Rattle.std.proofs.Common.{◌≡◌, ◌≢◌, refl, sym, ◌∙◌, ap, subst, ℕ, zero, suc, ◌+◌, ◌*◌, ◌/◌, ◌%◌, ◌<◌, inl, inr, List, [], ◌∷◌, length, drop, get_or, slice_get, Option, Some, None, MatchOption, arith}
 use Rattle.std.proofs.Math.Nat.{mod-add-div'}
 use Rattle.std.proofs.Math.Seq.{drop-cons}
 use Rattle.std.proofs.lemmas.Option.{same_Some, slice_get-get_or, slice_get_within}
-use Rattle.lam_fraction.specs.Fraction.{whole}
 use Rattle.lam_stock.specs.declared.item.Item.{Item}
 use Rattle.lam_stock.specs.declared.item.ItemNo.{ItemNo}
 use Rattle.lam_job.specs.JobData.{JobData}
-use Rattle.lam_job.specs.Plate.{PanelRatio}
 use Rattle.lam_job.specs.Rules.{Fit}
 use Rattle.lam_job.specs.Schedule.{wall_of}
-use Rattle.lam_job.specs.Strength.{CaseRatio}
+use Rattle.lam_sharp.specs.SharpRatios.{HasSharpRatio, HasSharpPanel}
 use Rattle.lam_judge.specs.Printed.{Printed, ratio_of, panel_of, panel_in, ArePrinted, HavePanelRatios}
 use Rattle.lam_judge.specs.inside.Ratios.{printed}
 use Rattle.lam_tree.specs.Findings.{Fault, WrongRatio}
@@ -78,7 +76,7 @@ module _ (stock : List Item) (job : JobData) (listed : List ItemNo) (room : Prin
         let same : r ≡ get_or room.ratios i 0 = own ∙ ap (λ k. get_or room.ratios k 0) place in
         let there : slice_get room.ratios i ≡ Some r
         = slice_get-get_or room.ratios i 0 (omega (arith, within, many)) ∙ ap (λ n. Some n) (sym same) in
-        subst (λ n. CaseRatio stock job listed (i / n) (i % n) (whole (pos r))) are.plies (are.ratios i r there)
+        subst (λ n. HasSharpRatio stock job listed (i / n) (i % n) r) are.plies (are.ratios i r there)
 
   -- ---- panels
 
@@ -126,7 +124,7 @@ module _ (stock : List Item) (job : JobData) (listed : List ItemNo) (room : Prin
       let within = slice_get_within panels i r at in
       by room.panels are.panels (panel-is line 0 panels checks i r at ∙ ap (λ n. panel_of room n) (let e : 0 + i ≡ i = omega arith in e)) where
         by : (o : Option (List ℕ)) → MatchOption o (¬ Fit stock job listed) (λ ratios. Fit stock job listed × HavePanelRatios stock job listed ratios)
-            → Some r ≡ panel_in o i → PanelRatio stock job listed i (whole (pos r))
+            → Some r ≡ panel_in o i → HasSharpPanel stock job listed i r
         by None none same = absurd (let n : Some r ≡ None = same in cc)
         by (Some own) (fit, have) same =
             let number = have.number in

@@ -3,15 +3,14 @@
 ghost use Rattle.std.specs.Prelude.{◌≡◌, ◌↔◌, length, All, Some, IfSome, OnOk, IfOk, IfErr, IsOk};
 ghost use Rattle.lam_job.specs.Schedule.{IsJobFor};
 ghost use Rattle.lam_tree.specs.Checks.{Accepts, IsFirstFault, best_cost as best_spec};
-ghost use Rattle.lam_tree.specs.Promise.{PromiseBy};
-ghost use Rattle.lam_tree.specs.Words.{IsTrueBy};
+ghost use Rattle.lam_tree.specs.Promise.{Promise};
+ghost use Rattle.lam_tree.specs.Words.{IsTrueOf};
 ghost use Rattle.lam_tree.specs.Reading.{read};
 ghost use Rattle.lam_tree.specs.ReportRanges.{IsReport};
 ghost use Rattle.lam_answers.specs.inside.Computed.{computed};
 ghost use Rattle.lam_check.specs.Faults.{fault_is};
 ghost use Rattle.lam_check.specs.Headed.{with_nodes};
 ghost use Rattle.lam_check.specs.Says.{Says};
-ghost use Rattle.lam_answers.specs.Straddling.{Straddles};
 ghost use Rattle.lam_check.specs.inside.Claimed.{with_tree};
 ghost use Rattle.lam_check.specs.inside.Printing.{IsAsPrinted};
 
@@ -32,7 +31,7 @@ use lam_tree::{Head, Report};
 
 /// Checks a report: its best schedule line by line, the named one, the lines of its tree in order,
 /// its budget, and its answer. The room is lent for the ratios of the best schedule. An accepted
-/// report keeps its promise, where a straddling leaf says only that its schedule is judged so.
+/// report keeps its promise.
 pub fn check(
     job: &Job,
     stock: &Stock,
@@ -46,8 +45,8 @@ pub fn check(
     ensures fault { IfErr result (λ fault. IsFirstFault stock.now job.now
         (computed stock.now job.now) report.now (fault_is fault)) }
     ensures says { IfOk result (Says report.now) }
-    ensures promise { OnOk result (PromiseBy stock.now job.now
-        (Straddles (computed stock.now job.now)) report.now.budget report.now) }
+    ensures promise { OnOk result (Promise stock.now job.now
+        report.now.budget report.now) }
 {
     let claims = Claims {
         budget: report.budget,
@@ -80,8 +79,7 @@ pub fn check_lines<L: Lines>(
     ensures fault { IfErr result (λ fault. IsFirstFault stock.now job.now
         (computed stock.now job.now) (with_nodes head.now (L.rest lines.old)) (fault_is fault)) }
     ensures says { IfOk result (Says (with_nodes head.now (L.rest lines.old))) }
-    ensures promise { OnOk result (PromiseBy stock.now job.now
-        (Straddles (computed stock.now job.now)) head.now.budget
+    ensures promise { OnOk result (Promise stock.now job.now head.now.budget
         (with_nodes head.now (L.rest lines.old))) }
 {
     let claims = Claims {
@@ -111,8 +109,7 @@ fn check_claims<L: Lines>(
     ensures fault { IfErr result (λ fault. IsFirstFault stock.now job.now
         (computed stock.now job.now) (with_tree claims.now (L.rest lines.old)) (fault_is fault)) }
     ensures says { IfOk result (Says (with_tree claims.now (L.rest lines.old))) }
-    ensures promise { OnOk result (PromiseBy stock.now job.now
-        (Straddles (computed stock.now job.now)) claims.now.budget
+    ensures promise { OnOk result (Promise stock.now job.now claims.now.budget
         (with_tree claims.now (L.rest lines.old))) }
 {
     if let Err(fault) = find(job, stock, claims, lines, room) {
@@ -136,8 +133,8 @@ fn find<L: Lines>(
         (with_tree claims.now (L.rest lines.old))) }
     ensures fault { IfErr result (λ fault. IsFirstFault stock.now job.now
         (computed stock.now job.now) (with_tree claims.now (L.rest lines.old)) (fault_is fault)) }
-    ensures leaves { OnOk result (All (λ v. IsTrueBy stock.now job.now
-        (Straddles (computed stock.now job.now)) (best_spec claims.now.best.now) v.partial v.word)
+    ensures leaves { OnOk result (All (λ v. IsTrueOf stock.now job.now
+        (best_spec claims.now.best.now) v.partial v.word)
         (read stock.now job.now (L.rest lines.old)).visits) }
     ensures printed { OnOk result (IfSome claims.now.best.now
         (IsAsPrinted stock.now job.now claims.now.ratios.now claims.now.panels.now)) }

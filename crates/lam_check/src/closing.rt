@@ -9,11 +9,10 @@ ghost use Rattle.lam_judge.specs.inside.Tables.{AreTablesOf};
 ghost use Rattle.lam_rules.specs.Conditions.{IsPartial};
 ghost use Rattle.lam_tree.specs.Closings.{ClosesByRule, IsSound, Reaches};
 ghost use Rattle.lam_tree.specs.ForceBalance.{IsShort, net_cost as net_spec};
-ghost use Rattle.lam_tree.specs.Words.{IsTrueBy, NoneIsCheaper, NoneMayBeBuilt};
+ghost use Rattle.lam_tree.specs.Words.{IsTrueOf, NoneIsCheaper, NoneMayBeBuilt};
 ghost use Rattle.lam_bounds.specs.inside.Computed.{capacity_value};
 ghost use Rattle.lam_boxes.specs.inside.Tables.{AreBoxTablesOf};
 ghost use Rattle.lam_answers.specs.inside.Computed.{computed};
-ghost use Rattle.lam_answers.specs.Straddling.{Straddles};
 
 use crate::costs::reaches;
 use crate::judging::is_judged_full;
@@ -45,8 +44,8 @@ pub fn closes(
     requires leaf { word ≢ Word.Split }
     ensures value { (incumbent : Option ℕ) → IsTrue result
         ↔ IsSound stock.now job.now (computed stock.now job.now) best incumbent partial.now word }
-    ensures so { IsTrue result → IsTrueBy stock.now job.now
-        (Straddles (computed stock.now job.now)) best partial.now word }
+    ensures so { IsTrue result → IsTrueOf stock.now job.now
+        best partial.now word }
 {
     match word {
         Word::Split => unreachable!(),

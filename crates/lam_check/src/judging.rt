@@ -8,10 +8,9 @@ ghost use Rattle.lam_judge.specs.inside.Judged.{judged};
 ghost use Rattle.lam_judge.specs.inside.Tables.{AreTablesOf};
 ghost use Rattle.lam_judge.specs.Judgements.{IsSchedule};
 ghost use Rattle.lam_rules.specs.Conditions.{IsPartial};
-ghost use Rattle.lam_tree.specs.Words.{IsTrueBy};
+ghost use Rattle.lam_tree.specs.Words.{IsTrueOf};
 ghost use Rattle.lam_tree.specs.Checks.{IsJudged};
 ghost use Rattle.lam_answers.specs.inside.Computed.{computed, word_of as word_spec};
-ghost use Rattle.lam_answers.specs.Straddling.{Straddles};
 
 use crate::splitting::is_full;
 use lam_answers::word_of;
@@ -57,8 +56,8 @@ pub fn is_judged_full(
     requires short { partial.now.n ≤ job.now.limit }
     ensures value { IsTrue result ↔ (IsFull job.now partial.now
         × (word_spec (judged stock.now job.now (completion job.now partial.now)) ≡ word)) }
-    ensures so { (best : Option ℕ) → IsTrue result → IsTrueBy stock.now job.now
-        (Straddles (computed stock.now job.now)) best partial.now word }
+    ensures so { (best : Option ℕ) → IsTrue result → IsTrueOf stock.now job.now
+        best partial.now word }
 {
     if !is_full(job, partial) {
         return false;

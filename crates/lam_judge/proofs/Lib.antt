@@ -38,3 +38,5 @@ pub mod StrengthSteps
 pub mod PrintedSteps
 -- where a judgement names a place, the wall has it
 pub mod JudgedPlaces
+-- schedules that are near nowhere
+pub mod Decided

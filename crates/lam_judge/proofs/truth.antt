@@ -2,6 +2,10 @@
 pub mod Failing
 -- what a verdict at a place says of the stress there
 pub mod PlaceTruth
+-- the laws of narrow strains
+pub mod NarrowLaws
+-- how narrow the strains at a place are
+pub mod NarrowTruth
 -- what the verdicts of a wall say of its ratios
 pub mod WallTruth
 -- what a computed judgement says

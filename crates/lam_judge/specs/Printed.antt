@@ -1,13 +1,11 @@
 -- The printed ratios of a schedule, and what they say.
-use Rattle.std.specs.Prelude.{◌≡◌, ℕ, ◌+◌, ◌*◌, ◌/◌, ◌%◌, pos, List, length, slice_get, slice_index_or, Option, Some, None, MatchOption}
-use Rattle.lam_fraction.specs.Fraction.{whole}
+use Rattle.std.specs.Prelude.{◌≡◌, ℕ, ◌+◌, ◌*◌, ◌/◌, ◌%◌, List, length, slice_get, slice_index_or, Option, Some, None, MatchOption}
 use Rattle.lam_stock.specs.declared.item.Item.{Item}
 use Rattle.lam_stock.specs.declared.item.ItemNo.{ItemNo}
 use Rattle.lam_job.specs.JobData.{JobData}
 use Rattle.lam_job.specs.Schedule.{wall_of}
-use Rattle.lam_job.specs.Strength.{CaseRatio}
-use Rattle.lam_job.specs.Plate.{PanelRatio}
 use Rattle.lam_job.specs.Rules.{Fit}
+use Rattle.lam_sharp.specs.SharpRatios.{HasSharpRatio, HasSharpPanel}
 
 -- the number of wall plies; the ratios in thousandths, for each case in order those of the wall plies in order; and those of the
 -- panels in order, if the schedule is fit for a panel
@@ -30,15 +28,15 @@ panel_of p panel = panel_in p.panels panel
 
 -- ---- what they say
 
--- each wall ply has its ratio under each case: ratio number i is that of ply i % plies under case i / plies
+-- each wall ply has its ratio under each case, and it is sharp: ratio number i is that of ply i % plies under case i / plies
 abbrev pub HaveRatios : List Item → JobData → List ItemNo → Printed → Type 0
 HaveRatios stock job listed p =
-    (i r : ℕ) → slice_get p.ratios i ≡ Some r → CaseRatio stock job listed (i / p.plies) (i % p.plies) (whole (pos r))
+    (i r : ℕ) → slice_get p.ratios i ≡ Some r → HasSharpRatio stock job listed (i / p.plies) (i % p.plies) r
 
--- a list has the ratios of all panels, and each panel has its ratio
+-- a list has the ratios of all panels, and each panel has its ratio, which is sharp
 pub record HavePanelRatios (stock : List Item) (job : JobData) (listed : List ItemNo) (ratios : List ℕ) : Type 0 where
   pub number : length ratios ≡ length job.panels
-  pub each : (k r : ℕ) → slice_get ratios k ≡ Some r → PanelRatio stock job listed k (whole (pos r))
+  pub each : (k r : ℕ) → slice_get ratios k ≡ Some r → HasSharpPanel stock job listed k r
 
 -- the printed ratios are those of a schedule
 pub record ArePrinted (stock : List Item) (job : JobData) (listed : List ItemNo) (p : Printed) : Type 0 where

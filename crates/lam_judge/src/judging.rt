@@ -7,7 +7,7 @@ ghost use Rattle.lam_job.specs.Schedule.{items_of};
 ghost use Rattle.lam_plate.specs.Panels.{IsFitWall};
 ghost use Rattle.lam_stock.specs.Scale.{scale_of};
 ghost use Rattle.lam_judge.specs.declared.finding.Finding.TheVariants.{Clear};
-ghost use Rattle.lam_judge.specs.Judgements.{IsSaid, IsSchedule};
+ghost use Rattle.lam_judge.specs.Judgements.{IsDecided, IsSaid, IsSchedule};
 ghost use Rattle.lam_judge.specs.inside.Judged as by;
 ghost use Rattle.lam_judge.specs.inside.Layups.{IsLaid, IsLayupOf};
 ghost use Rattle.lam_judge.specs.inside.Scales.{coarse as coarse_numbers, fine as fine_numbers};
@@ -34,6 +34,7 @@ pub fn judge(job: &Job, stock: &Stock, listed: &Stack) -> Judgement
     requires { IsSchedule stock.now job.now listed.now }
     ensures value { result ≡ by.judged stock.now job.now listed.now }
     ensures so { IsSaid stock.now job.now listed.now result }
+    ensures decided { IsDecided stock.now job.now listed.now result }
 {
     judge_by(&Tables::of(stock), job, stock, listed)
 }
@@ -44,6 +45,7 @@ pub fn judge_by(tables: &Tables, job: &Job, stock: &Stock, listed: &Stack) -> Ju
     requires tables { AreTablesOf stock.now tables.now }
     ensures value { result ≡ by.judged stock.now job.now listed.now }
     ensures so { IsSaid stock.now job.now listed.now result }
+    ensures decided { IsDecided stock.now job.now listed.now result }
 {
     if let Some(rule) = breaks(job, stock, listed) {
         return Judgement::Broken(rule);

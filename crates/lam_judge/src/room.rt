@@ -1,13 +1,11 @@
 // Room for the printed ratios of a schedule.
 
 ghost use Rattle.std.specs.Prelude.{◌≡◌, ℕ, ◌+◌, ◌*◌, ◌<◌, [], ◌∷◌, ◌++◌, length, List, pos, Some, None, IfOk, IfSome, IsSomeAnd, IsNone, ◌↔◌};
-ghost use Rattle.lam_fraction.specs.Fraction.{whole};
 ghost use Rattle.lam_stock.specs.declared.item.Item.{Item};
 ghost use Rattle.lam_stock.specs.declared.item.ItemNo.{ItemNo};
 ghost use Rattle.lam_job.specs.JobData.{JobData};
-ghost use Rattle.lam_job.specs.Plate.{PanelRatio};
 ghost use Rattle.lam_job.specs.Rules.{Fit};
-ghost use Rattle.lam_job.specs.Strength.{CaseRatio};
+ghost use Rattle.lam_sharp.specs.SharpRatios.{HasSharpPanel, HasSharpRatio};
 ghost use Rattle.lam_judge.specs.Printed.{ArePrinted, panel_of, ratio_of};
 
 use lam_job::{MOST_CASES, MOST_PANELS, MOST_WALL_PLIES};
@@ -102,7 +100,7 @@ impl Room {
         ensures value { result ≡ ratio_of self.now case ply }
         ensures so { (stock : List Item) (job : JobData) (listed : List ItemNo)
             → ArePrinted stock job listed self.now
-            → CaseRatio stock job listed case ply (whole (pos result)) }
+            → HasSharpRatio stock job listed case ply result }
     {
         self.ratios[usize::from(case) * usize::from(self.plies) + usize::from(ply)]
     }
@@ -117,7 +115,7 @@ impl Room {
             → IsNone result ↔ (¬ Fit stock job listed) }
         ensures so { (stock : List Item) (job : JobData) (listed : List ItemNo)
             → ArePrinted stock job listed self.now
-            → IfSome result (λ r. PanelRatio stock job listed panel (whole (pos r))) }
+            → IfSome result (λ r. HasSharpPanel stock job listed panel r) }
     {
         if self.is_fit {
             Some(self.panels[usize::from(panel)])

@@ -89,6 +89,11 @@ const TIED: &str = "ny = 100000\nfactor = 5000";
 
 const TORN: &str = "ny = 150000\nfactor = 5000";
 
+// a two-hundredth below what is tied, and one above
+const BELOW_TIED: &str = "ny = 99500\nfactor = 5000";
+
+const ABOVE_TIED: &str = "ny = 100500\nfactor = 5000";
+
 const TIED_TWICE: &str = "ny = 200000\nfactor = 5000";
 
 // one N/m more than the range of a mat
@@ -120,7 +125,7 @@ type Row = (
     Judgement,
 );
 
-const WORKED: [Row; 24] = [
+const WORKED: [Row; 27] = [
     // what a schedule may be
     ("", &[PULLED], &[], &[0], Judgement::Admissible),
     ("", &[PULLED], &[SQUARE], &[0, 0], Judgement::Admissible),
@@ -215,6 +220,10 @@ const WORKED: [Row; 24] = [
         &[0, 0],
         Judgement::Buckles(1),
     ),
+    // a load that is near its factor: below it, a tie, and above
+    ("", &[BELOW_TIED], &[], &[0], Judgement::Admissible),
+    ("", &[TIED], &[], &[0], Judgement::StraddlesPly(FIRST)),
+    ("", &[ABOVE_TIED], &[], &[0], Judgement::Fails(FIRST)),
     // a tie, and before it what fails or buckles
     (
         "",

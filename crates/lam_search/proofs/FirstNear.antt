@@ -11,6 +11,7 @@ use Rattle.lam_tree.specs.declared.node.Word.{Word}
 use Rattle.lam_tree.specs.declared.node.Word.TheVariants as word
 use Rattle.lam_tree.specs.declared.report.Near.{Near}
 use Rattle.lam_tree.specs.Reading.{Visit}
+use Rattle.lam_tree.specs.Words.{HangsAt}
 use Rattle.lam_tree.specs.Closings.{IsBelow, incumbent_with}
 use Rattle.lam_tree.specs.Checks.{is_cheaper, undecided, first_undecided}
 use Rattle.lam_tree.specs.ReportRanges.{AreListed, IsSpot}
@@ -31,13 +32,14 @@ only_if true own near e = (refl, same_Some own near e)
 only_if false own near e = absurd (let n : None ≡ Some near = e in cc)
 
 module _ (m : Basis) (valid : IsJob m.job) where
-  -- a schedule that is judged to straddle at a spot, below a cost
+  -- a schedule that is judged to straddle at a spot, and hangs there, below a cost
   pub record IsNear (best : Option ℕ) (near : Near) : Type 0 where
     pub listed : AreListed m.stock near.plies
     pub short : length near.plies ≤ m.job.limit
     pub cost : near.cost ≡ cost_of m.stock m.job near.plies
     pub small : near.cost ≤ MOST_COST
     pub judged : m.tests.judged near.plies ≡ word.Straddles near.at
+    pub hangs : HangsAt m.stock m.job near.plies near.at
     pub spot : IsSpot near.at
     pub below : IsBelow near.cost best
 
@@ -56,6 +58,7 @@ module _ (m : Basis) (valid : IsJob m.job) where
         cost = refl;
         small = held.small;
         judged = held.sound.1;
+        hangs = held.so.1;
         spot = held.range;
         below = is_below best cost is.0;
       })

@@ -102,7 +102,7 @@ module _ (stock : List Item) (job : JobData) (valid : IsJob job) (liner : IsKnow
         part = part;
         short = short;
         sound = sound j is named;
-        so = judged_so stock job (computed stock job) c p full j (word_of j) refl is named;
+        so = judged_so stock job c p full j (word_of j) refl is;
         range = range j is placed (few_plies completes);
         small = small;
       })

@@ -12,16 +12,15 @@ use Rattle.lam_tree.specs.declared.report.Near.{Near}
 use Rattle.lam_tree.specs.declared.report.Answer.{Answer}
 use Rattle.lam_tree.specs.declared.report.Answer.TheVariants as answer
 use Rattle.lam_tree.specs.declared.report.Report.{Report}
-use Rattle.lam_tree.specs.Words.{IsTrueBy}
+use Rattle.lam_tree.specs.Words.{IsTrueOf}
 use Rattle.lam_tree.specs.Reading.{Visit, Ending, Cut, Stray, Whole, Reading, read}
 use Rattle.lam_tree.specs.Closings.{IsBelow}
 use Rattle.lam_tree.specs.Checks.{best_cost, best_lines, nodes_line, first_undecided, final, answer_with, answer_at, BestChecks, NearChecks, LineChecks, Accepts}
-use Rattle.lam_tree.specs.Promise.{AreLawful, HasRatios, HasPanels, IsBest, NoLeafIsAdmissible, AnswerHoldsBy, PromiseBy}
+use Rattle.lam_tree.specs.Promise.{AreLawful, HasRatios, HasPanels, IsBest, NoLeafIsAdmissible, AnswerHolds, Promise}
 use Rattle.lam_tree.specs.ReportRanges.{AreListed, IsBlock, IsAnswer, IsReport}
 use Rattle.lam_tree.proofs.Cover.{read-covers}
 use Rattle.lam_tree.proofs.Settle.{NotAbove, settles}
 use Rattle.lam_tree.proofs.Moments.{moment_checks}
-use Rattle.lam_answers.specs.Straddling.{Straddles}
 use Rattle.lam_search.specs.declared.searching.Found.{Found}
 use Rattle.lam_search.specs.Reports.{report_of, CheckAsPrinted, ArePrintable}
 use Rattle.lam_search.specs.inside.Here.{Basis}
@@ -168,10 +167,10 @@ module _ (m : Basis) (valid : IsJob m.job) where
           ),
         )
 
-    leaves : All (λ v. IsTrueBy m.stock m.job (Straddles m.tests) (best_cost found.best) v.partial v.word) r.visits
+    leaves : All (λ v. IsTrueOf m.stock m.job (best_cost found.best) v.partial v.word) r.visits
     leaves =
-        subst (λ o. All (λ (v : Visit). IsTrueBy m.stock m.job (Straddles m.tests) o v.partial v.word) r.visits) (sym f.cost)
-        (subst (All (λ (v : Visit). IsTrueBy m.stock m.job (Straddles m.tests) (final m.stock m.job f.visits) v.partial v.word)) (sym visits_are)
+        subst (λ o. All (λ (v : Visit). IsTrueOf m.stock m.job o v.partial v.word) r.visits) (sym f.cost)
+        (subst (All (λ (v : Visit). IsTrueOf m.stock m.job (final m.stock m.job f.visits) v.partial v.word)) (sym visits_are)
         (all-true m None f.visits f.held))
 
     -- a whole tree of true leaves, of which none is undecided: what may be built is not cheaper than the best
@@ -179,7 +178,7 @@ module _ (m : Basis) (valid : IsJob m.job) where
         → (s : List ItemNo) → design.IsSequence m.stock m.job s → design.Admissible m.stock m.job s → NotAbove (best_cost found.best) (cost_of m.stock m.job s)
     below whole decided s is may =
         let covers = read-covers m.stock m.job found.tree s is (may.rules SymmetricRule) whole in
-        elim (settles m.stock m.job (Straddles m.tests) (best_cost found.best) s may None r.visits leaves covers
+        elim (settles m.stock m.job (best_cost found.best) s may None r.visits leaves covers
         (subst (λ o. first_undecided m.stock m.job o r.visits ≡ None) (sym cost_is) decided)) [
           | inl low ↦ low
           | inr low ↦ subst (λ o. NotAbove o (cost_of m.stock m.job s)) (sym cost_is) low
@@ -187,21 +186,21 @@ module _ (m : Basis) (valid : IsJob m.job) where
 
     whole_answer : (report : Report) → report.best ≡ found.best → r.ending ≡ Whole → (c : Option ℕ) → final m.stock m.job r.visits ≡ c
         → (near : Option Near) → first_undecided m.stock m.job (final m.stock m.job r.visits) r.visits ≡ near
-        → found.answer ≡ answer_with c near → AnswerHoldsBy m.stock m.job (Straddles m.tests) report r found.answer
+        → found.answer ≡ answer_with c near → AnswerHolds m.stock m.job report r found.answer
     whole_answer report same whole c cost (Some near) first is =
         let n = near_is near is in
-        subst (AnswerHoldsBy m.stock m.job (Straddles m.tests) report r) (sym is) (
+        subst (AnswerHolds m.stock m.job report r) (sym is) (
           whole,
           record { some = n.listed.some; short = n.short; known = n.listed.known },
           n.cost,
           subst (λ o. IsBelow near.cost o) (sym cost_is ∙ sym (ap best_cost same)) n.below,
-          n.judged,
+          n.hangs,
         )
     whole_answer report same whole None cost None decided is =
-        subst (AnswerHoldsBy m.stock m.job (Straddles m.tests) report r) (sym is)
+        subst (AnswerHolds m.stock m.job report r) (sym is)
         (whole, none_holds (best_cost found.best) (cost_is ∙ cost) (below whole decided))
     whole_answer report same whole (Some n) cost None decided is =
-        subst (AnswerHoldsBy m.stock m.job (Straddles m.tests) report r) (sym is) (
+        subst (AnswerHolds m.stock m.job report r) (sym is) (
           whole,
           subst (λ o. MatchOption o ⊥ (λ b. design.Least m.stock m.job b.plies)) (sym same)
               (least_holds found.best n (cost_is ∙ cost) f.good (below whole decided)),
@@ -209,9 +208,9 @@ module _ (m : Basis) (valid : IsJob m.job) where
 
     answer_holds : (report : Report) → report.best ≡ found.best → report.tree ≡ found.tree → report.budget ≡ budget → (e : Ending) → r.ending ≡ e → e ≢ Stray
         → found.answer ≡ answer_at e (final m.stock m.job r.visits) (first_undecided m.stock m.job (final m.stock m.job r.visits) r.visits)
-        → AnswerHoldsBy m.stock m.job (Straddles m.tests) report r found.answer
+        → AnswerHolds m.stock m.job report r found.answer
     answer_holds report same tree is_budget Cut ending is_due is =
-        subst (AnswerHoldsBy m.stock m.job (Straddles m.tests) report r) (sym is)
+        subst (AnswerHolds m.stock m.job report r) (sym is)
         (ending, ap length tree ∙ f.spent (sym ending_is ∙ ending) ∙ sym is_budget)
     answer_holds report same tree is_budget Stray ending is_due is = absurd (is_due refl)
     answer_holds report same tree is_budget Whole ending is_due is =
@@ -219,7 +218,7 @@ module _ (m : Basis) (valid : IsJob m.job) where
 
     pub keeps_promise : (ratios panels : List ℕ)
         → IfSome found.best (λ b. HasRatios m.stock m.job b.plies ratios × HasPanels m.stock m.job b.plies panels)
-        → PromiseBy m.stock m.job (Straddles m.tests) budget (report_of budget found ratios panels)
+        → Promise m.stock m.job budget (report_of budget found ratios panels)
     keeps_promise ratios panels printed =
         let report = report_of budget found ratios panels in record {
           budget_is = refl;

@@ -2,26 +2,23 @@
 use Rattle.std.proofs.Common.{◌≡◌, ◌≢◌, sym, ap, subst, ℕ, ◌≤◌, inl, inr, List, [], ◌∷◌, All, Option, Some, None, IsSomeAnd, arith}
 use Rattle.std.proofs.lemmas.List.Elements.{All-cons, All-nil}
 use Rattle.lam_stock.specs.declared.item.Item.{Item}
-use Rattle.lam_stock.specs.declared.item.ItemNo.{ItemNo}
 use Rattle.lam_job.specs.JobData.{JobData}
 use Rattle.lam_job.specs.Schedule.{cost_of}
 use Rattle.lam_job.specs.Partial.{Partial, completion, cost_floor}
 use Rattle.lam_tree.specs.declared.node.Word.{Word}
 use Rattle.lam_tree.specs.declared.node.Word.TheVariants as word
-use Rattle.lam_tree.specs.declared.spot.Spot.{Spot}
 use Rattle.lam_tree.specs.Reading.{Visit}
-use Rattle.lam_tree.specs.Words.{IsTrueBy, NoneIsCheaper}
+use Rattle.lam_tree.specs.Words.{IsTrueOf, NoneIsCheaper}
 use Rattle.lam_tree.specs.Closings.{incumbent_with, incumbent_after, lesser}
 use Rattle.lam_tree.specs.Promise.{NoLeafIsAdmissible}
 use Rattle.lam_tree.proofs.Settle.{NotAbove, incumbent-falls}
-use Rattle.lam_answers.specs.Straddling.{Straddles}
 use Rattle.lam_search.specs.inside.Here.{Basis}
 use Rattle.lam_search.specs.inside.Held.{AreHeld}
 
 le_same : (n : ℕ) → n ≤ n
 le_same n = omega arith
 
-module _ (stock : List Item) (job : JobData) (Undecided : List ItemNo → Spot → Type 0) where
+module _ (stock : List Item) (job : JobData) where
   cheaper-later : (c later : Option ℕ) (p : Partial) → ((cost : ℕ) → NotAbove c cost → NotAbove later cost)
       → IsSomeAnd c (NoneIsCheaper stock job p) → IsSomeAnd later (NoneIsCheaper stock job p)
   cheaper-later None later p falls none = absurd none
@@ -31,7 +28,7 @@ module _ (stock : List Item) (job : JobData) (Undecided : List ItemNo → Spot �
     by (Some least) low = λ listed completes may. let high = none listed completes may in omega (arith, low, high)
 
   true-later : (c later : Option ℕ) (p : Partial) (w : Word) → ((cost : ℕ) → NotAbove c cost → NotAbove later cost)
-      → IsTrueBy stock job Undecided c p w → IsTrueBy stock job Undecided later p w
+      → IsTrueOf stock job c p w → IsTrueOf stock job later p w
   true-later c later p word.Split falls so = tt
   true-later c later p word.Cost falls so = falls (cost_floor stock job p) so
   true-later c later p (word.Rule r) falls so = so
@@ -45,7 +42,6 @@ module _ (stock : List Item) (job : JobData) (Undecided : List ItemNo → Spot �
   true-later c later p (word.Straddles spot) falls so = so
   true-later c later p word.Admissible falls so = so
 
-module _ (stock : List Item) (job : JobData) where
   -- where there is no cost in the end, no leaf is admissible
   admissible-costs : (c : Option ℕ) (v : Visit) (rest : List Visit) → v.word ≡ word.Admissible
       → incumbent_after stock job (incumbent_with stock job c v.partial v.word) rest ≡ None → ⊥
@@ -63,13 +59,13 @@ module _ (stock : List Item) (job : JobData) where
 
 -- all that hold at their moment are true in the end
 pub all-true : (m : Basis) (c : Option ℕ) (visits : List Visit) → AreHeld m c visits
-    → All (λ v. IsTrueBy m.stock m.job (Straddles m.tests) (incumbent_after m.stock m.job c visits) v.partial v.word) visits
+    → All (λ v. IsTrueOf m.stock m.job (incumbent_after m.stock m.job c visits) v.partial v.word) visits
 all-true m c [] held =
-    All-nil (λ (v : Visit). IsTrueBy m.stock m.job (Straddles m.tests) c v.partial v.word)
+    All-nil (λ (v : Visit). IsTrueOf m.stock m.job c v.partial v.word)
 all-true m c (v ∷ rest) held =
     let next = incumbent_with m.stock m.job c v.partial v.word in
     let final = incumbent_after m.stock m.job next rest in
-    All-cons (λ (u : Visit). IsTrueBy m.stock m.job (Straddles m.tests) final u.partial u.word) v rest
-    (true-later m.stock m.job (Straddles m.tests) c final v.partial v.word
+    All-cons (λ (u : Visit). IsTrueOf m.stock m.job final u.partial u.word) v rest
+    (true-later m.stock m.job c final v.partial v.word
     (λ cost h. incumbent-falls m.stock m.job c (v ∷ rest) cost h) held.0.so)
     (all-true m next rest held.1)

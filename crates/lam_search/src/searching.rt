@@ -5,12 +5,11 @@ ghost use Rattle.lam_job.specs.Design.{Admissible};
 ghost use Rattle.lam_job.specs.Partial.{total_partials};
 ghost use Rattle.lam_job.specs.Schedule.{IsJobFor, cost_of};
 ghost use Rattle.lam_tree.specs.Checks.{Accepts, best_cost, final, answer_of as answer_spec};
-ghost use Rattle.lam_tree.specs.Promise.{HasRatios, HasPanels, PromiseBy};
+ghost use Rattle.lam_tree.specs.Promise.{HasRatios, HasPanels, Promise};
 ghost use Rattle.lam_tree.specs.Reading.{read};
 ghost use Rattle.lam_tree.specs.ReportRanges.{AreListed, IsReport};
 ghost use Rattle.lam_tree.specs.declared.limits.TheConstants.{MOST_NODES};
 ghost use Rattle.lam_answers.specs.inside.Computed.{computed};
-ghost use Rattle.lam_answers.specs.Straddling.{Straddles};
 ghost use Rattle.lam_search.specs.Reports.{report_of, CheckAsPrinted, ArePrintable};
 ghost use Rattle.lam_search.specs.inside.Outcome.{IsFound};
 ghost use Rattle.lam_search.specs.inside.Outcome.{ending_of, answer_seen};
@@ -61,7 +60,7 @@ pub fn search(
     ensures promise { IfOk result (λ found. (ratios panels : List ℕ)
         → IfSome found.best (λ b. HasRatios stock.now job.now b.plies ratios
         × HasPanels stock.now job.now b.plies panels)
-        → PromiseBy stock.now job.now (Straddles (computed stock.now job.now)) budget
+        → Promise stock.now job.now budget
         (report_of budget found ratios panels)) }
     ensures grammar { IfOk result (λ found. (ratios panels : List ℕ)
         → ArePrintable stock.now job.now found.best ratios panels

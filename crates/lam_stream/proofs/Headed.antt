@@ -12,7 +12,7 @@ use Rattle.lam_tree.specs.declared.report.Head.{Head}
 use Rattle.lam_tree.specs.declared.report.Report.{Report}
 use Rattle.lam_tree.specs.Lines.{node_line}
 use Rattle.lam_tree.specs.Checks.{Accepts, IsFirstFault}
-use Rattle.lam_tree.specs.Promise.{PromiseBy}
+use Rattle.lam_tree.specs.Promise.{Promise}
 use Rattle.lam_tree.specs.Tests.{Tests}
 use Rattle.lam_tree.specs.ReportRanges.{IsNode, IsReport}
 use Rattle.lam_report.specs.LineText.{text_of, whole_lines}
@@ -20,7 +20,6 @@ use Rattle.lam_report.specs.ReportGrammar.{IsHead, Scans, Spells}
 use Rattle.lam_report.proofs.CutLaws.{lines_again, text_of-append}
 use Rattle.lam_report.proofs.FaultLaws.{one_report}
 use Rattle.lam_report.proofs.GrammarLaws.{Given, TreeOf, tree_parses}
-use Rattle.lam_answers.specs.Straddling.{Straddles}
 use Rattle.lam_check.specs.declared.accepted.Accepted.{Accepted}
 use Rattle.lam_check.specs.declared.fault.CheckFault.{CheckFault}
 use Rattle.lam_check.specs.Faults.{fault_is}
@@ -90,7 +89,7 @@ module _ (stock : List Item) (job : JobData) (given : Given stock job) where
 -- ---- what is found of a report, of another name
 
 pub kept_is : (stock : List Item) (job : JobData) (tests : Tests) (one report : Report) (r : Result Accepted CheckFault) → one ≡ report
-    → (IsOk r → Accepts stock job tests one) → IfOk r (Says one) → OnOk r (PromiseBy stock job (Straddles tests) one.budget one)
+    → (IsOk r → Accepts stock job tests one) → IfOk r (Says one) → OnOk r (Promise stock job one.budget one)
     → IfOk r (IsKept stock job tests report)
 kept_is stock job tests one report (Ok said) e accepts says promise =
     subst (λ (x : Report). IsKept stock job tests x said) e (record { accepted = accepts refl; says = says; promise = promise })

@@ -4,11 +4,10 @@ use Rattle.lam_stock.specs.declared.item.Item.{Item}
 use Rattle.lam_job.specs.JobData.{JobData}
 use Rattle.lam_tree.specs.declared.report.Report.{Report}
 use Rattle.lam_tree.specs.Checks.{Accepts, IsFirstFault}
-use Rattle.lam_tree.specs.Promise.{PromiseBy}
+use Rattle.lam_tree.specs.Promise.{Promise}
 use Rattle.lam_tree.specs.Tests.{Tests}
 use Rattle.lam_report.specs.ReportGrammar.{Spells}
 use Rattle.lam_report.specs.ReportGrammar as grammar
-use Rattle.lam_answers.specs.Straddling.{Straddles}
 use Rattle.lam_check.specs.declared.accepted.Accepted.{Accepted}
 use Rattle.lam_check.specs.Faults.{fault_is}
 use Rattle.lam_check.specs.Says.{Says}
@@ -20,7 +19,7 @@ module _ (stock : List Item) (job : JobData) (tests : Tests) where
   pub record IsKept (report : Report) (said : Accepted) : Type 0 where
     pub accepted : Accepts stock job tests report
     pub says : Says report said
-    pub promise : PromiseBy stock job (Straddles tests) report.budget report
+    pub promise : Promise stock job report.budget report
 
   -- bytes spell a report of which that is so
   pub record IsAccepted (bytes : List ℕ) (said : Accepted) : Type 0 where

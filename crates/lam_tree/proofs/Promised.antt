@@ -13,16 +13,15 @@ use Rattle.lam_job.specs.Partial.{Partial, completion}
 use Rattle.lam_tree.specs.declared.node.Node.{Node}
 use Rattle.lam_tree.specs.declared.node.Word.{Word}
 use Rattle.lam_tree.specs.declared.node.Word.TheVariants as word
-use Rattle.lam_tree.specs.declared.spot.Spot.{Spot}
 use Rattle.lam_tree.specs.declared.report.Best.{Best}
 use Rattle.lam_tree.specs.declared.report.Near.{Near}
 use Rattle.lam_tree.specs.declared.report.Report.{Report}
-use Rattle.lam_tree.specs.Words.{IsTrueBy}
+use Rattle.lam_tree.specs.Words.{IsTrueOf, HangsAt}
 use Rattle.lam_tree.specs.Reading.{Visit, Ending, Cut, Stray, Whole, Reading, read}
 use Rattle.lam_tree.specs.Tests.{Tests}
 use Rattle.lam_tree.specs.Closings.{IsBelow, IsLawful, IsSound, lesser, incumbent_with, incumbent_after}
 use Rattle.lam_tree.specs.Checks.{best_cost, is_cheaper, undecided, first_undecided, final, answer_with, answer_at, best_lines, nodes_line, BestChecks, NearChecks, LineChecks, Accepts}
-use Rattle.lam_tree.specs.Promise.{AreLawful, IsBest, NoLeafIsAdmissible, AnswerHoldsBy, IsPrinted, PromiseBy}
+use Rattle.lam_tree.specs.Promise.{AreLawful, IsBest, NoLeafIsAdmissible, AnswerHolds, IsPrinted, Promise}
 use Rattle.lam_tree.proofs.Cover.{read-covers}
 use Rattle.lam_tree.specs.ReportRanges.{AreListed, IsBlock, IsAnswer, IsReport}
 use Rattle.lam_tree.proofs.Settle.{NotAbove, incumbent-falls, settles}
@@ -30,8 +29,7 @@ use Rattle.lam_tree.proofs.Settle.{NotAbove, incumbent-falls, settles}
 le_same : (n : ℕ) → n ≤ n
 le_same n = omega arith
 
--- below, `Undecided` says what is so of a schedule and the spot where it straddles
-module _ (stock : List Item) (job : JobData) (Undecided : List ItemNo → Spot → Type 0) where
+module _ (stock : List Item) (job : JobData) where
   -- ---- splits
 
   sound_is_lawful : (tests : Tests) (best c : Option ℕ) (p : Partial) (w : Word) → IsSound stock job tests best c p w → w ≡ word.Split → IsLawful stock job c p
@@ -66,7 +64,7 @@ module _ (stock : List Item) (job : JobData) (Undecided : List ItemNo → Spot �
   pub record IsNamed (best : Option ℕ) (near : Near) : Type 0 where
     pub cost : near.cost ≡ cost_of stock job near.plies
     pub below : IsBelow near.cost best
-    pub undecided : Undecided near.plies near.at
+    pub hangs : HangsAt stock job near.plies near.at
 
   is_below : (best : Option ℕ) (cost : ℕ) → is_cheaper cost best ≡ true → IsBelow cost best
   is_below None cost e = tt
@@ -80,12 +78,12 @@ module _ (stock : List Item) (job : JobData) (Undecided : List ItemNo → Spot �
   only_if_cheaper true own near e = refl
   only_if_cheaper false own near e = absurd (let n : None ≡ Some near = e in cc)
 
-  leaf_names : (best : Option ℕ) (p : Partial) (w : Word) (near : Near) → IsTrueBy stock job Undecided best p w → undecided stock job best p w ≡ Some near → IsNamed best near
+  leaf_names : (best : Option ℕ) (p : Partial) (w : Word) (near : Near) → IsTrueOf stock job best p w → undecided stock job best p w ≡ Some near → IsNamed best near
   leaf_names best p (word.Straddles spot) near h e =
       let own_cost = cost_of stock job (completion job p) in
       let own : Near = record { plies = completion job p; cost = own_cost; at = spot } in
       named_by best own near
-      (record { cost = refl; below = is_below best own_cost (only_if_cheaper (is_cheaper own_cost best) own near e); undecided = h.1 })
+      (record { cost = refl; below = is_below best own_cost (only_if_cheaper (is_cheaper own_cost best) own near e); hangs = h.1 })
       (is_cheaper own_cost best) e
   leaf_names best p word.Split near h e = absurd (let n : None ≡ Some near = e in cc)
   leaf_names best p word.Cost near h e = absurd (let n : None ≡ Some near = e in cc)
@@ -102,11 +100,11 @@ module _ (stock : List Item) (job : JobData) (Undecided : List ItemNo → Spot �
   first_of None b near e = inr e
   first_of (Some x) b near e = inl e
 
-  first_is_named : (best : Option ℕ) (visits : List Visit) (near : Near) → All (λ v. IsTrueBy stock job Undecided best v.partial v.word) visits
+  first_is_named : (best : Option ℕ) (visits : List Visit) (near : Near) → All (λ v. IsTrueOf stock job best v.partial v.word) visits
       → first_undecided stock job best visits ≡ Some near → IsNamed best near
   first_is_named best [] near all e = absurd (let n : None ≡ Some near = e in cc)
   first_is_named best (v ∷ rest) near all e =
-      let P : Visit → Type 0 = λ u. IsTrueBy stock job Undecided best u.partial u.word in
+      let P : Visit → Type 0 = λ u. IsTrueOf stock job best u.partial u.word in
       elim (first_of (undecided stock job best v.partial v.word) (first_undecided stock job best rest) near e) [
         | inl own ↦ leaf_names best v.partial v.word near (All-head P v rest all) own
         | inr later ↦ first_is_named best rest near (All-tail P v rest all) later
@@ -116,12 +114,12 @@ module _ (stock : List Item) (job : JobData) (Undecided : List ItemNo → Spot �
 
   -- a whole tree of true leaves, of which none is undecided: what may be built is not cheaper than the best
   none_is_below : (lines : List Node) (best : Option ℕ) → best ≡ final stock job (read stock job lines).visits → (read stock job lines).ending ≡ Whole
-      → All (λ v. IsTrueBy stock job Undecided best v.partial v.word) (read stock job lines).visits
+      → All (λ v. IsTrueOf stock job best v.partial v.word) (read stock job lines).visits
       → first_undecided stock job best (read stock job lines).visits ≡ None
       → (s : List ItemNo) → design.IsSequence stock job s → design.Admissible stock job s → NotAbove best (cost_of stock job s)
   none_is_below lines best is whole all decided s sequence may =
       let covers = read-covers stock job lines s sequence (may.rules SymmetricRule) whole in
-      elim (settles stock job Undecided best s may None (read stock job lines).visits all covers decided) [
+      elim (settles stock job best s may None (read stock job lines).visits all covers decided) [
         | inl low ↦ low
         | inr low ↦ subst (λ o. NotAbove o (cost_of stock job s)) (sym is) low
       ]
@@ -165,7 +163,7 @@ module _ (stock : List Item) (job : JobData) (Undecided : List ItemNo → Spot �
     none_holds best none below s is may = subst (λ o. NotAbove o (cost_of stock job s)) none (below s is may)
 
     module _ (ranges : IsReport stock job report) (accepted : Accepts stock job tests report)
-        (leaves : All (λ v. IsTrueBy stock job Undecided (best_cost report.best) v.partial v.word) r.visits)
+        (leaves : All (λ v. IsTrueOf stock job (best_cost report.best) v.partial v.word) r.visits)
         (printed : IfSome report.best (IsPrinted stock job report)) where
       cost_is_final : best_cost report.best ≡ final stock job r.visits
       cost_is_final = accepted.1.1.1.1.cost
@@ -181,32 +179,32 @@ module _ (stock : List Item) (job : JobData) (Undecided : List ItemNo → Spot �
 
       whole_answer : r.ending ≡ Whole → (c : Option ℕ) → final stock job r.visits ≡ c
           → (near : Option Near) → first_undecided stock job (final stock job r.visits) r.visits ≡ near
-          → report.answer ≡ answer_with c near → AnswerHoldsBy stock job Undecided report r report.answer
+          → report.answer ≡ answer_with c near → AnswerHolds stock job report r report.answer
       whole_answer whole c cost (Some near) named is =
           let range = subst (λ a. IsAnswer stock a report.best) is ranges.answer in
           let checks = subst (λ a. NearChecks stock job tests a (4 + best_lines report) None) is accepted.1.0 in
           let n = first_is_named (best_cost report.best) r.visits near leaves
           (subst (λ o. first_undecided stock job o r.visits ≡ Some near) (sym cost_is_final) named) in
-          subst (AnswerHoldsBy stock job Undecided report r) (sym is)
-          (whole, sequence_of near.plies range.1 checks.1.0, n.cost, n.below, n.undecided)
+          subst (AnswerHolds stock job report r) (sym is)
+          (whole, sequence_of near.plies range.1 checks.1.0, n.cost, n.below, n.hangs)
       whole_answer whole None cost None decided is =
-          subst (AnswerHoldsBy stock job Undecided report r) (sym is)
+          subst (AnswerHolds stock job report r) (sym is)
           (whole, none_holds (best_cost report.best) (cost_is_final ∙ cost) (below whole decided))
       whole_answer whole (Some n) cost None decided is =
-          subst (AnswerHoldsBy stock job Undecided report r) (sym is)
+          subst (AnswerHolds stock job report r) (sym is)
           (whole, least_holds report.best n (cost_is_final ∙ cost) best (below whole decided))
 
       answer_holds : (e : Ending) → r.ending ≡ e → e ≢ Stray
           → report.answer ≡ answer_at e (final stock job r.visits) (first_undecided stock job (final stock job r.visits) r.visits)
-          → AnswerHoldsBy stock job Undecided report r report.answer
-      answer_holds Cut ending due is = subst (AnswerHoldsBy stock job Undecided report r) (sym is) (ending, accepted.1.1.1.0.spent is)
+          → AnswerHolds stock job report r report.answer
+      answer_holds Cut ending due is = subst (AnswerHolds stock job report r) (sym is) (ending, accepted.1.1.1.0.spent is)
       answer_holds Stray ending due is = absurd (due refl)
       answer_holds Whole ending due is =
           whole_answer ending (final stock job r.visits) refl (first_undecided stock job (final stock job r.visits) r.visits) refl is
 
       -- an accepted report keeps its promise
-      pub promised_by : PromiseBy stock job Undecided report.budget report
-      promised_by = record {
+      pub promised : Promise stock job report.budget report
+      promised = record {
         budget_is = refl;
         few = accepted.1.1.1.0.most;
         due = accepted.1.1.0.1;

@@ -19,9 +19,8 @@ use Rattle.lam_job.proofs.Completions.{only_completion}
 use Rattle.lam_tsai.specs.declared.place.Place.{Place}
 use Rattle.lam_tree.specs.declared.node.Word.{Word}
 use Rattle.lam_tree.specs.declared.node.Word.TheVariants as word
-use Rattle.lam_tree.specs.declared.spot.Spot.{Spot}
 use Rattle.lam_tree.specs.declared.report.Near.{Near}
-use Rattle.lam_tree.specs.Words.{place_of, IsTrueBy, OfFull, NoneIsCheaper, AllFailAt}
+use Rattle.lam_tree.specs.Words.{place_of, IsTrueOf, OfFull, NoneIsCheaper, AllFailAt}
 use Rattle.lam_tree.specs.Reading.{Visit}
 use Rattle.lam_tree.specs.Closings.{lesser, incumbent_with, incumbent_after}
 use Rattle.lam_tree.specs.Checks.{is_cheaper, undecided, first_undecided}
@@ -122,13 +121,13 @@ first_none : (a b : Option Near) → ◌≡◌ {A = Option Near} (elim a [ Some 
 first_none None b e = (refl, e)
 first_none (Some near) b e = absurd (let n : Some near ≡ None = e in cc)
 
-module _ (stock : List Item) (job : JobData) (Undecided : List ItemNo → Spot → Type 0) (best : Option ℕ) (s : List ItemNo) (may : Admissible stock job s) where
+module _ (stock : List Item) (job : JobData) (best : Option ℕ) (s : List ItemNo) (may : Admissible stock job s) where
   -- the completion of a full partial is all that completes it
   of_full : (So : List ItemNo → Type 0) (p : Partial) → Completes stock job p s → OfFull job p So → So s
   of_full So p completes of = subst So (sym (only_completion stock job p s of.0 completes)) of.1
 
   -- a true leaf that closes a schedule that may be built
-  line-settles : (c : Option ℕ) (p : Partial) (w : Word) → IsTrueBy stock job Undecided best p w → Completes stock job p s → w ≢ word.Split
+  line-settles : (c : Option ℕ) (p : Partial) (w : Word) → IsTrueOf stock job best p w → Completes stock job p s → w ≢ word.Split
       → undecided stock job best p w ≡ None
       → NotAbove best (cost_of stock job s) ⊎ NotAbove (incumbent_with stock job c p w) (cost_of stock job s)
   line-settles c p word.Split holds completes leaf decided = absurd (leaf refl)
@@ -161,12 +160,12 @@ module _ (stock : List Item) (job : JobData) (Undecided : List ItemNo → Spot �
 
   -- where all leaves are true, one closes a schedule that may be built, and none is undecided below the best cost: that
   -- cost is at most the schedule's, or the least cost of an admissible leaf is
-  pub settles : (c : Option ℕ) (visits : List Visit) → All (λ v. IsTrueBy stock job Undecided best v.partial v.word) visits → Covers stock job s visits
+  pub settles : (c : Option ℕ) (visits : List Visit) → All (λ v. IsTrueOf stock job best v.partial v.word) visits → Covers stock job s visits
       → first_undecided stock job best visits ≡ None
       → NotAbove best (cost_of stock job s) ⊎ NotAbove (incumbent_after stock job c visits) (cost_of stock job s)
   settles c [] holds covers decided = absurd covers
   settles c (v ∷ rest) holds covers decided =
-      let P : Visit → Type 0 = λ u. IsTrueBy stock job Undecided best u.partial u.word in
+      let P : Visit → Type 0 = λ u. IsTrueOf stock job best u.partial u.word in
       let parts = first_none (undecided stock job best v.partial v.word) (first_undecided stock job best rest) decided in
       elim covers [
         | inl closes ↦ elim (line-settles c v.partial v.word (All-head P v rest holds) closes.completes closes.leaf parts.0) [

@@ -1,20 +1,17 @@
 -- What a report promises, whoever wrote it.
-use Rattle.std.specs.Prelude.{◌≡◌, ◌≢◌, ℕ, ◌/◌, ◌%◌, ◌≤◌, pos, List, [], ◌∷◌, length, slice_get, All, Option, Some, None, MatchOption}
-use Rattle.lam_fraction.specs.Fraction.{whole}
+use Rattle.std.specs.Prelude.{◌≡◌, ◌≢◌, ℕ, ◌/◌, ◌%◌, ◌≤◌, List, [], ◌∷◌, length, slice_get, All, Option, Some, None, MatchOption}
 use Rattle.lam_stock.specs.declared.item.Item.{Item}
 use Rattle.lam_stock.specs.declared.item.ItemNo.{ItemNo}
 use Rattle.lam_job.specs.JobData.{JobData}
 use Rattle.lam_job.specs.Schedule.{wall_of, cost_of}
-use Rattle.lam_job.specs.Strength.{CaseRatio}
-use Rattle.lam_job.specs.Plate.{PanelRatio}
 use Rattle.lam_job.specs.Design as design
-use Rattle.lam_tree.specs.declared.spot.Spot.{Spot}
+use Rattle.lam_sharp.specs.SharpRatios.{HasSharpRatio, HasSharpPanel}
 use Rattle.lam_tree.specs.declared.node.Word.TheVariants as word
 use Rattle.lam_tree.specs.declared.report.Best.{Best}
 use Rattle.lam_tree.specs.declared.report.Answer.{Answer}
 use Rattle.lam_tree.specs.declared.report.Answer.TheVariants as answer
 use Rattle.lam_tree.specs.declared.report.Report.{Report}
-use Rattle.lam_tree.specs.Words.{IsTrueBy, HangsAt}
+use Rattle.lam_tree.specs.Words.{IsTrueOf, HangsAt}
 use Rattle.lam_tree.specs.Reading.{Visit, Cut, Stray, Whole, Reading, read}
 use Rattle.lam_tree.specs.Closings.{IsBelow, IsLawful, incumbent_with}
 use Rattle.lam_tree.specs.Checks.{best_cost, final}
@@ -26,14 +23,14 @@ module _ (stock : List Item) (job : JobData) where
   AreLawful c (v ∷ rest) =
       (v.word ≡ word.Split → IsLawful stock job c v.partial) × AreLawful (incumbent_with stock job c v.partial v.word) rest
 
-  -- ratio number i is that of ply i % plies under case i / plies, plies being those of the wall
+  -- ratio number i is that of ply i % plies under case i / plies, plies being those of the wall, and it is sharp
   abbrev pub HasRatios : List ItemNo → List ℕ → Type 0
   HasRatios listed ratios =
       (i r : ℕ) → slice_get ratios i ≡ Some r
-      → CaseRatio stock job listed (i / length (wall_of stock job listed)) (i % length (wall_of stock job listed)) (whole (pos r))
+      → HasSharpRatio stock job listed (i / length (wall_of stock job listed)) (i % length (wall_of stock job listed)) r
 
   abbrev pub HasPanels : List ItemNo → List ℕ → Type 0
-  HasPanels listed panels = (i r : ℕ) → slice_get panels i ≡ Some r → PanelRatio stock job listed i (whole (pos r))
+  HasPanels listed panels = (i r : ℕ) → slice_get panels i ≡ Some r → HasSharpPanel stock job listed i r
 
   -- the best schedule may be built and has what is printed of it; its cost is the least of an admissible leaf
   pub record IsBest (report : Report) (visits : List Visit) (b : Best) : Type 0 where
@@ -54,30 +51,21 @@ module _ (stock : List Item) (job : JobData) where
   abbrev pub NoLeafIsAdmissible : List Visit → Type 0
   NoLeafIsAdmissible visits = All (λ v. v.word ≢ word.Admissible) visits
 
-  -- below, `Undecided` says what is so of a schedule and the spot where it straddles
-  module _ (Undecided : List ItemNo → Spot → Type 0) where
-    -- what each answer says
-    abbrev pub AnswerHoldsBy : Report → Reading → Answer → Type 0
-    AnswerHoldsBy report r answer.Least =
-        (r.ending ≡ Whole) × MatchOption report.best ⊥ (λ b. design.Least stock job b.plies)
-    AnswerHoldsBy report r answer.NoneMeets = (r.ending ≡ Whole) × design.NoneMeets stock job
-    AnswerHoldsBy report r answer.OpenBudget = (r.ending ≡ Cut) × (length report.tree ≡ report.budget)
-    AnswerHoldsBy report r (answer.OpenStraddle near) =
-        (r.ending ≡ Whole) × design.IsSequence stock job near.plies × (near.cost ≡ cost_of stock job near.plies)
-        × IsBelow near.cost (best_cost report.best) × Undecided near.plies near.at
-
-    pub record PromiseBy (budget : ℕ) (report : Report) : Type 0 where
-      pub budget_is : report.budget ≡ budget
-      pub few : length report.tree ≤ budget
-      pub due : (read stock job report.tree).ending ≢ Stray
-      pub lawful : AreLawful None (read stock job report.tree).visits
-      pub leaves : All (λ v. IsTrueBy stock job Undecided (best_cost report.best) v.partial v.word) (read stock job report.tree).visits
-      pub best : MatchOption report.best (NoLeafIsAdmissible (read stock job report.tree).visits) (IsBest report (read stock job report.tree).visits)
-      pub answer : AnswerHoldsBy report (read stock job report.tree) report.answer
-
-  -- where a straddling leaf, and an open answer, say that a schedule hangs there
+  -- what each answer says
   abbrev pub AnswerHolds : Report → Reading → Answer → Type 0
-  AnswerHolds = AnswerHoldsBy (HangsAt stock job)
+  AnswerHolds report r answer.Least =
+      (r.ending ≡ Whole) × MatchOption report.best ⊥ (λ b. design.Least stock job b.plies)
+  AnswerHolds report r answer.NoneMeets = (r.ending ≡ Whole) × design.NoneMeets stock job
+  AnswerHolds report r answer.OpenBudget = (r.ending ≡ Cut) × (length report.tree ≡ report.budget)
+  AnswerHolds report r (answer.OpenStraddle near) =
+      (r.ending ≡ Whole) × design.IsSequence stock job near.plies × (near.cost ≡ cost_of stock job near.plies)
+      × IsBelow near.cost (best_cost report.best) × HangsAt stock job near.plies near.at
 
-  abbrev pub Promise : (budget : ℕ) (report : Report) → Type 0
-  Promise = PromiseBy (HangsAt stock job)
+  pub record Promise (budget : ℕ) (report : Report) : Type 0 where
+    pub budget_is : report.budget ≡ budget
+    pub few : length report.tree ≤ budget
+    pub due : (read stock job report.tree).ending ≢ Stray
+    pub lawful : AreLawful None (read stock job report.tree).visits
+    pub leaves : All (λ v. IsTrueOf stock job (best_cost report.best) v.partial v.word) (read stock job report.tree).visits
+    pub best : MatchOption report.best (NoLeafIsAdmissible (read stock job report.tree).visits) (IsBest report (read stock job report.tree).visits)
+    pub answer : AnswerHolds report (read stock job report.tree) report.answer

@@ -55,25 +55,20 @@ AllFailAt stock job p at =
     IsSomeAnd (slice_get job.cases at.case) (λ c. ForEveryCompletion stock job p (λ listed.
     WallInRange stock (wall_of stock job listed) (load_of c.kind) → FailsAt stock job listed (place_of at)))
 
--- what a leaf says of its partial is so, where `best` is the cost of the best schedule, or none, and a straddling leaf says
--- something of its completion and a spot. A split says nothing
-abbrev pub IsTrueBy : List Item → JobData → (Undecided : List ItemNo → Spot → Type 0) → (best : Option ℕ) → Partial → Word → Type 0
-IsTrueBy stock job Undecided best p word.Split = ⊤
-IsTrueBy stock job Undecided best p word.Cost = IsSomeAnd best (λ cost. cost ≤ cost_floor stock job p)
-IsTrueBy stock job Undecided best p (word.Rule rule) = ForEveryCompletion stock job p (Breaks rule.0 stock job)
-IsTrueBy stock job Undecided best p (word.NetShort case weight) = NoneMayBeBuilt stock job p
-IsTrueBy stock job Undecided best p (word.NetCost case weight) = NoneMayBeBuilt stock job p ⊎ IsSomeAnd best (NoneIsCheaper stock job p)
-IsTrueBy stock job Undecided best p (word.Box at) = AllFailAt stock job p at
-IsTrueBy stock job Undecided best p (word.Range case) = OfFull job p (λ listed. OutOfRange stock job listed case)
-IsTrueBy stock job Undecided best p (word.Fails at) = OfFull job p (λ listed. FailsAt stock job listed (place_of at))
-IsTrueBy stock job Undecided best p (word.Buckles panel) = OfFull job p (λ listed. Buckles stock job listed panel)
-IsTrueBy stock job Undecided best p (word.Straddles spot) = OfFull job p (λ listed. Undecided listed spot)
-IsTrueBy stock job Undecided best p word.Admissible = OfFull job p (Admissible stock job)
-
 -- a schedule hangs at a spot
 abbrev pub HangsAt : List Item → JobData → List ItemNo → Spot → Type 0
 HangsAt stock job listed spot = near.Hangs stock job listed (spot_of spot)
 
--- what a leaf says is so, where a straddling leaf says that its completion hangs there
+-- what a leaf says of its partial is so, where `best` is the cost of the best schedule, or none. A split says nothing
 abbrev pub IsTrueOf : List Item → JobData → (best : Option ℕ) → Partial → Word → Type 0
-IsTrueOf stock job = IsTrueBy stock job (HangsAt stock job)
+IsTrueOf stock job best p word.Split = ⊤
+IsTrueOf stock job best p word.Cost = IsSomeAnd best (λ cost. cost ≤ cost_floor stock job p)
+IsTrueOf stock job best p (word.Rule rule) = ForEveryCompletion stock job p (Breaks rule.0 stock job)
+IsTrueOf stock job best p (word.NetShort case weight) = NoneMayBeBuilt stock job p
+IsTrueOf stock job best p (word.NetCost case weight) = NoneMayBeBuilt stock job p ⊎ IsSomeAnd best (NoneIsCheaper stock job p)
+IsTrueOf stock job best p (word.Box at) = AllFailAt stock job p at
+IsTrueOf stock job best p (word.Range case) = OfFull job p (λ listed. OutOfRange stock job listed case)
+IsTrueOf stock job best p (word.Fails at) = OfFull job p (λ listed. FailsAt stock job listed (place_of at))
+IsTrueOf stock job best p (word.Buckles panel) = OfFull job p (λ listed. Buckles stock job listed panel)
+IsTrueOf stock job best p (word.Straddles spot) = OfFull job p (λ listed. HangsAt stock job listed spot)
+IsTrueOf stock job best p word.Admissible = OfFull job p (Admissible stock job)

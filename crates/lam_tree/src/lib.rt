@@ -12,7 +12,7 @@ mod line_words; // the words of a line
 mod read; // the line of a node, read
 mod laws; // the laws of trees and reports
 
-pub use laws::{Hanging, Undecided, accepted_keeps_promise, closed_reports_agree};
+pub use laws::{accepted_keeps_promise, closed_reports_agree};
 pub use limits::{MOST_COST, MOST_NODES, MOST_RATIO, MOST_RULES};
 pub use line::Line;
 pub use line_words::LineWords;

@@ -36,7 +36,8 @@ pub enum Word {
     Fails(Place),
     /// A panel of the only one buckles.
     Buckles(u8),
-    /// The computation does not decide the only one at a spot.
+    /// The only one hangs at a spot: it is within one part in 200 of a factor there, fails nothing by
+    /// more, and is not decided.
     Straddles(Spot),
     /// The only one may be built.
     Admissible,

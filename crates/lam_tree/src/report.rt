@@ -17,7 +17,8 @@ pub struct Best {
     pub cost: u64,
 }
 
-/// A schedule that the computation does not decide, and that costs less than the best one.
+/// A schedule that hangs, so that the computation does not decide it, and that costs less than the
+/// best one.
 #[derive(Drop)]
 pub struct Near {
     /// The listed plies.

@@ -2,11 +2,10 @@
 
 ghost use Rattle.lam_tree.specs.Laws.{AcceptedKeepsPromise, ClosedReportsAgree};
 ghost use Rattle.lam_tree.specs.ReportRanges.{IsNode};
-ghost use Rattle.lam_tree.specs.Words.{HangsAt};
 
 use crate::{
-    Hanging, Node, Ratios, Seat, Spot, Tree, TreeFault, Word, accepted_keeps_promise,
-    closed_reports_agree, read_line, write_line,
+    Node, Ratios, Seat, Spot, Tree, TreeFault, Word, accepted_keeps_promise, closed_reports_agree,
+    read_line, write_line,
 };
 use lam_rules::RuleNo;
 use lam_stock::ItemNo;
@@ -139,18 +138,18 @@ fn a_tree_keeps_its_nodes_in_order(rt: HostRuntime) -> Result<(), Fail> {
     Ok(())
 }
 
-// the laws, where a straddling leaf says that a schedule hangs there
-fn hanging_keeps_the_laws()
-    ensures kept { AcceptedKeepsPromise HangsAt }
-    ensures agree { ClosedReportsAgree HangsAt }
+// the laws, as a caller has them
+fn the_laws_are_had()
+    ensures kept { AcceptedKeepsPromise }
+    ensures agree { ClosedReportsAgree }
 {
-    accepted_keeps_promise::<Hanging>();
-    closed_reports_agree::<Hanging>();
+    accepted_keeps_promise();
+    closed_reports_agree();
 }
 
 #[test]
 fn a_line_is_read_as_its_node(rt: HostRuntime) {
-    hanging_keeps_the_laws();
+    the_laws_are_had();
     let node = Node {
         seat: Seat::Item(ItemNo(63)),
         word: Word::Straddles(Spot::Ply(LAST)),

@@ -10,9 +10,8 @@ use Rattle.lam_tree.specs.declared.report.Answer.TheVariants as answer
 use Rattle.lam_job.specs.Partial.{total_partials}
 use Rattle.lam_tree.specs.declared.report.Best.{Best}
 use Rattle.lam_tree.specs.Checks.{Accepts}
-use Rattle.lam_tree.specs.Promise.{HasPanels, HasRatios, PromiseBy}
+use Rattle.lam_tree.specs.Promise.{HasPanels, HasRatios, Promise}
 use Rattle.lam_tree.specs.ReportRanges.{IsReport}
-use Rattle.lam_answers.specs.Straddling.{Straddles}
 use Rattle.lam_answers.specs.inside.Computed.{computed}
 use Rattle.lam_search.specs.declared.searching.Found.{Found}
 use Rattle.lam_search.specs.Reports.{ArePrintable, CheckAsPrinted, report_of}
@@ -48,7 +47,7 @@ module _ (stock : List Item) (job : JobData) (ratios panels : List ℕ) where
 pub found_design : (stock : List Item) (job : JobData) (nodes : ℕ) (found : Found) (ratios panels : List ℕ)
     → ((r p : List ℕ) → CheckAsPrinted stock job (computed stock job) found.best r p → Accepts stock job (computed stock job) (report_of nodes found r p))
     → ((r p : List ℕ) → IfSome found.best (λ b. HasRatios stock job b.plies r × HasPanels stock job b.plies p)
-    → PromiseBy stock job (Straddles (computed stock job)) nodes (report_of nodes found r p))
+    → Promise stock job nodes (report_of nodes found r p))
     → ((r p : List ℕ) → ArePrintable stock job found.best r p → IsReport stock job (report_of nodes found r p))
     → (total_partials job.rules.symmetric (length stock) job.limit ≤ nodes → found.answer ≢ answer.OpenBudget)
     → ArePrintedOfBest stock job found.best ratios panels → IsDesign stock job nodes (report_of nodes found ratios panels)

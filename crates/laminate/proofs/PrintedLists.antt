@@ -1,9 +1,8 @@
 -- The lists of printed ratios, from the room in which they were printed.
-use Rattle.std.proofs.Common.{◌≡◌, refl, sym, ◌∙◌, ap, subst, ℕ, zero, suc, ◌+◌, ◌*◌, ◌/◌, ◌%◌, ◌<◌, ◌≤◌, pos, List, [], ◌∷◌, length, get_or, Option, Some, None, All, arith}
+use Rattle.std.proofs.Common.{◌≡◌, refl, sym, ◌∙◌, ap, subst, ℕ, zero, suc, ◌+◌, ◌*◌, ◌/◌, ◌%◌, ◌<◌, ◌≤◌, List, [], ◌∷◌, length, get_or, Option, Some, None, All, arith}
 use Rattle.std.specs.Prelude.{MatchOption}
 use Rattle.std.proofs.Math.Nat.{mod-add-div', mul-le-mul}
 use Rattle.std.proofs.lemmas.Option.{none-some}
-use Rattle.lam_fraction.specs.Fraction.{whole}
 use Rattle.lam_stock.specs.declared.item.Item.{Item}
 use Rattle.lam_stock.specs.declared.item.ItemNo.{ItemNo}
 use Rattle.lam_stock.specs.Stock.{IsKnown}
@@ -11,7 +10,7 @@ use Rattle.lam_job.specs.JobData.{JobData}
 use Rattle.lam_job.specs.Design.{Admissible}
 use Rattle.lam_job.specs.Rules.{Fit, FitnessRule}
 use Rattle.lam_job.specs.Schedule.{items_of, wall_of}
-use Rattle.lam_job.specs.Strength.{CaseRatio}
+use Rattle.lam_sharp.specs.SharpRatios.{HasSharpRatio}
 use Rattle.lam_job.proofs.Listed.{items_of-length}
 use Rattle.lam_judge.specs.Printed.{ArePrinted, HavePanelRatios, Printed, panel_in, panel_of, ratio_of}
 use Rattle.lam_judge.specs.inside.Ratios.{printed}
@@ -107,7 +106,7 @@ module _ (stock : List Item) (job : JobData) (listed : List ItemNo) (room : Prin
             ∙ ap (λ n. ratio_of room (n / length (wall_of stock job listed)) (n % length (wall_of stock job listed))) (let e : k ≡ 0 + k = omega arith in e));
         panels_computed = panel_checks (6 + length room.ratios) 0 (panels_in room.panels) (λ k within.
             sym (panel_there room.panels k within) ∙ ap (λ n. panel_of room n) (let e : k ≡ 0 + k = omega arith in e));
-        has_ratios = λ i r at. subst (λ n. CaseRatio stock job listed (i / n) (i % n) (whole (pos r))) are.plies (are.ratios i r at);
+        has_ratios = λ i r at. subst (λ n. HasSharpRatio stock job listed (i / n) (i % n) r) are.plies (are.ratios i r at);
         has_panels = has_panels room.panels are.panels;
         are_ratios = record {
           many = are.number ∙ ap (λ n. length job.cases * n) are.plies;

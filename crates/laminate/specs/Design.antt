@@ -7,9 +7,8 @@ use Rattle.lam_tree.specs.declared.report.Answer.{Answer}
 use Rattle.lam_tree.specs.declared.report.Answer.TheVariants as answer
 use Rattle.lam_tree.specs.declared.report.Report.{Report}
 use Rattle.lam_tree.specs.Checks.{Accepts}
-use Rattle.lam_tree.specs.Promise.{PromiseBy}
+use Rattle.lam_tree.specs.Promise.{Promise}
 use Rattle.lam_tree.specs.ReportRanges.{IsReport}
-use Rattle.lam_answers.specs.Straddling.{Straddles}
 use Rattle.lam_answers.specs.inside.Computed.{computed}
 use Rattle.lam_report.specs.ReportText.{report_text}
 use Rattle.laminate.specs.declared.input.Input.{Input}
@@ -23,10 +22,10 @@ status_of answer.NoneMeets = Done
 status_of answer.OpenBudget = Open
 status_of (answer.OpenStraddle near) = Open
 
--- a report of a search within a budget of nodes: it keeps its promise, where a straddling leaf says that its schedule is judged
--- so; the grammar of reports spells it; the checker accepts it; and the budget is not used up where no search tree has more nodes
+-- a report of a search within a budget of nodes: it keeps its promise; the grammar of reports spells it; the checker accepts it;
+-- and the budget is not used up where no search tree has more nodes
 pub record IsDesign (stock : List Item) (job : JobData) (budget : ℕ) (report : Report) : Type 0 where
-  pub promise : PromiseBy stock job (Straddles (computed stock job)) budget report
+  pub promise : Promise stock job budget report
   pub spelled : IsReport stock job report
   pub accepted : Accepts stock job (computed stock job) report
   pub enough : total_partials job.rules.symmetric (length stock) job.limit ≤ budget → report.answer ≢ answer.OpenBudget

@@ -6,7 +6,7 @@ use Rattle.lam_tree.specs.declared.node.Word.{Word}
 use Rattle.lam_tree.specs.declared.report.Near.{Near}
 use Rattle.lam_tree.specs.declared.report.Answer.{Answer}
 use Rattle.lam_tree.specs.declared.report.Answer.TheVariants as answer
-use Rattle.lam_tree.specs.Words.{IsTrueBy}
+use Rattle.lam_tree.specs.Words.{IsTrueOf}
 use Rattle.lam_tree.specs.Reading.{Stray, Whole, Cut, Reading, ends, visit}
 use Rattle.lam_tree.specs.Findings.{OutOfOrder}
 use Rattle.lam_tree.specs.Closings.{IsSound, incumbent_with}
@@ -15,13 +15,12 @@ use Rattle.lam_check.specs.declared.fault.CheckCause.{CheckCause}
 use Rattle.lam_check.specs.declared.state.State.{State}
 use Rattle.lam_check.specs.declared.state.Summary.{Summary}
 use Rattle.lam_check.specs.Faults.{cause_is}
-use Rattle.lam_answers.specs.Straddling.{Straddles}
 use Rattle.lam_check.specs.inside.Basis.{Basis}
 use Rattle.lam_check.specs.inside.Machine.{left, IsSettled}
 
 -- what a leaf says is so
 abbrev pub IsTrueLeaf : Basis → (best : Option ℕ) → Partial → Word → Type 0
-IsTrueLeaf m best p w = IsTrueBy m.stock m.job (Straddles m.tests) best p w
+IsTrueLeaf m best p w = IsTrueOf m.stock m.job best p w
 
 -- a machine keeps whether the first undecided leaf is the one that the answer names
 abbrev pub Remembers : Answer → Option Bool → (first : Option Near) → Type 0

@@ -63,10 +63,10 @@ module _ {A : Type 0} {n : Numbers A} (laws : Lawful n) {stock : List Item} {num
   abbrev h : ℤ
   h = wall_thickness wall
 
-  stands : StandsFor n (matrices n (scale_of stock) wall) (scale_of stock) stock numbers
+  pub stands : StandsFor n (matrices n (scale_of stock) wall) (scale_of stock) stock numbers
   stands = stands-for laws plies
 
-  centre : Guess
+  unfoldable pub centre : Guess
   centre =
       let w = matrices n (scale_of stock) wall in
       solutions.centre n w (loads n.calc (scale_of stock).q0 w.h load) (guess n (eliminated n w) (loads n.calc (scale_of stock).q0 w.h load))
@@ -76,15 +76,15 @@ module _ {A : Type 0} {n : Numbers A} (laws : Lawful n) {stock : List Item} {num
   unfolding centre
   held = enclosed-holds laws stands load range centre
 
-  short : AreShort n (strains n (scale_of stock) wall load)
+  pub short : AreShort n (strains n (scale_of stock) wall load)
   unfolding centre
   short = enclosed-short laws (scale_of stock) (matrices n (scale_of stock) wall) load centre
 
   module _ (z : ℤ) (within : IsWithin h z) where
-    thick : pos 1 ≤ℤ h
+    pub thick : pos 1 ≤ℤ h
     thick = let t = wall-thick stands in omega (arith, ints, t)
 
-    small : unsigned_abs h ≤ 2 ^ 66
+    pub small : unsigned_abs h ≤ 2 ^ 66
     small = let t = wall-thin stands in omega (arith, ints, t, thick)
 
     pub six : IsWithinSix n (face_strain n (scale_of stock) wall load z)

@@ -10,9 +10,8 @@ use Rattle.lam_tree.specs.declared.node.Word.TheVariants as word
 use Rattle.lam_tree.specs.declared.report.Best.{Best}
 use Rattle.lam_tree.specs.Reading.{Visit}
 use Rattle.lam_tree.specs.Closings.{IsSound, incumbent_with}
-use Rattle.lam_tree.specs.Words.{IsTrueBy}
+use Rattle.lam_tree.specs.Words.{IsTrueOf}
 use Rattle.lam_tree.specs.ReportRanges.{IsWord, IsNode, AreListed}
-use Rattle.lam_answers.specs.Straddling.{Straddles}
 use Rattle.lam_search.specs.declared.state.State.{State}
 use Rattle.lam_search.specs.inside.Here.{Basis}
 
@@ -22,7 +21,7 @@ module _ (m : Basis) where
     pub part : IsPartial m.stock m.job p
     pub short : p.n ≤ m.job.limit
     pub sound : IsSound m.stock m.job m.tests c c p w
-    pub so : IsTrueBy m.stock m.job (Straddles m.tests) c p w
+    pub so : IsTrueOf m.stock m.job c p w
     pub range : IsWord w
     pub small : cost_of m.stock m.job (completion m.job p) ≤ MOST_COST
 

@@ -1,8 +1,7 @@
 use Rattle.std.proofs.Common.{◌≡◌, true, false}
-use Rattle.lam_tree.proofs.Promised.{promised_by}
+use Rattle.lam_tree.proofs.Promised.{promised}
 use Rattle.lam_answers.specs.inside.Computed.{computed}
 use Rattle.lam_check.specs.Faults.{fault_is}
-use Rattle.lam_answers.specs.Straddling.{Straddles}
 use Rattle.lam_check.specs.inside.Claimed.{with_tree}
 use Rattle.lam_check.proofs.Excludes.{one_or_other}
 use Rattle.lam_check.proofs.Promises.{as_printed}
@@ -20,5 +19,5 @@ returns-clause-promise g c =
     let stock = c.args.stock.now in
     let job = c.args.job.now in
     let report = with_tree c.args.claims.now (g.L.Lines.rest c.args.lines.now) in
-    promised_by stock job (Straddles (computed stock job)) (computed stock job) report c.requires.report c.in_default.ensures.none c.in_default.ensures.leaves
+    promised stock job (computed stock job) report c.requires.report c.in_default.ensures.none c.in_default.ensures.leaves
     (as_printed stock job report report.best c.in_default.ensures.printed)

@@ -1,7 +1,5 @@
-use Rattle.std.proofs.Common.{sym, ap, subst, ◌∙◌}
+use Rattle.std.proofs.Common.{subst}
 use Rattle.lam_judge.specs.Judgements.{IsSaid}
-use Rattle.lam_judge.specs.inside.Judged.{judged}
-use Rattle.lam_answers.specs.inside.Computed.{computed, word_of}
 use Rattle.lam_answers.proofs.Judged.{judged_so}
 use Rattle.lam_check.proofs.judging.is_judged_full.Goals as goal
 
@@ -9,6 +7,5 @@ pub returns-clause-so : goal.returns-clause-so
 returns-clause-so c = λ best it.
     let stock = c.args.stock.now in
     let job = c.args.job.now in
-    judged_so stock job (computed stock job) best c.args.partial.now (c.is_full.ensures.0 c.if-not-is_full.false) c.judge_by.result c.args.word
+    judged_so stock job best c.args.partial.now (c.is_full.ensures.0 c.if-not-is_full.false) c.judge_by.result c.args.word
     (c.is_word.ensures.0 it) (subst (λ l. IsSaid stock job l c.judge_by.result) c.complete-listed.ensures.value c.judge_by.ensures.so)
-    (ap (λ l. word_of (judged stock job l)) (sym c.complete-listed.ensures.value) ∙ ap word_of (sym c.judge_by.ensures.value))

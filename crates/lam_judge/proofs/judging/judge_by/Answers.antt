@@ -4,6 +4,7 @@ use Rattle.lam_stock.specs.declared.item.ItemNo.{ItemNo}
 use Rattle.lam_job.specs.JobData.{JobData}
 use Rattle.lam_job.specs.Ranges.{IsJob}
 use Rattle.lam_job.specs.Schedule.{items_of}
+use Rattle.lam_judge.proofs.Decided.{decided}
 use Rattle.lam_judge.proofs.FirstBroken.{none-broken, some-broken}
 use Rattle.lam_judge.proofs.JudgedSteps.{first-out-is, first-out-said, judged-broken, judged-out}
 use Rattle.lam_judge.proofs.StrengthSteps.{layup-fit, layup-range, some-plies, strength-so, strength-value}
@@ -84,3 +85,12 @@ returns-clause-so c =
     let is = first-out-is stock job listed c.of-layup.result.plies c.scale.result c.of-layup.result.h _ c.items.result.now c.first_out.result (ap (items_of stock) plies ∙ c.wall_plies-plies.ensures.wall stock) c.scale.ensures.value c.of-layup.ensures.layup.thickness stored cases c.first_out.ensures in
     strength-so stock job listed c.of-layup.result c.of-layup.ensures.layup (c.of-layup.ensures.plies ∙ c.wall_plies-plies.ensures.plies) (c.in_default.ensures.none.0 refl) (sym is ∙ c.in_default-first_out.is)
     c.by_strength.result c.by_strength.ensures (subst IsJob c.job.view_is c.job.invariant)
+
+pub returns-in-Some-clause-decided : goal.returns-in-Some-clause-decided
+returns-in-Some-clause-decided c = decided c.args.stock.now c.args.job.now c.args.listed.now _ (c.in-Some.ensures.least)
+
+pub returns-in-Some-first_out-clause-decided : goal.returns-in-Some-first_out-clause-decided
+returns-in-Some-first_out-clause-decided c = decided c.args.stock.now c.args.job.now c.args.listed.now _ (returns-in-Some-first_out-clause-so c)
+
+pub returns-clause-decided : goal.returns-clause-decided
+returns-clause-decided c = decided c.args.stock.now c.args.job.now c.args.listed.now _ (returns-clause-so c)

@@ -2,4 +2,4 @@ use Rattle.lam_tree.proofs.Agree.{agree}
 use Rattle.lam_tree.proofs.laws.closed_reports_agree.Goals as goal
 
 pub returns : goal.returns
-returns g c = λ stock job. agree stock job (g.U.Undecided.says stock job)
+returns c = agree
