@@ -40,3 +40,5 @@ pub mod ChildBounds
 pub mod RunningSteps
 -- the bounds of a partial schedule by itself, from what its calls give
 pub mod PlainSteps
+-- the table of a tried weight
+pub mod ReadyTables

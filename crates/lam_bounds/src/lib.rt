@@ -18,6 +18,8 @@ mod fixed;
 mod running;
 // the three bounds of a partial schedule by itself
 mod plain;
+// balances of forces, with the tables of the tried weights
+mod ready;
 // all cases and tried weights at once
 mod closings;
 // all children of a partial schedule at once
@@ -28,6 +30,7 @@ pub use children::{no_child_is_dear, no_child_is_short};
 pub use closings::{first_dear, first_short};
 pub use fixed::Fixed;
 pub use plain::{cost_floor, net_cost, net_short};
+pub use ready::{net_cost_by, net_short_by};
 pub use running::{cost_floor_at, net_cost_at, net_short_at};
 pub use weights::{TRIED, tried_weights};
 

@@ -48,11 +48,30 @@ pub fn net_short(job: &Job, stock: &Stock, partial: &Partial, case: u8, w: &Weig
         IsShort stock.now job.now partial.now c w.now (λ i. capacity_value i w.now)) }
     ensures so { IsTrue result → NoneMayBeBuilt stock.now job.now partial.now }
 {
+    short_by(job, stock, &Carriers::of(stock, w), partial, case, w)
+}
+
+/// The same, by what the items carry.
+pub(crate) fn short_by(
+    job: &Job,
+    stock: &Stock,
+    carriers: &Carriers,
+    partial: &Partial,
+    case: u8,
+    w: &Weight,
+) -> bool
+    requires liner { IsKnown stock.now job.now.liner }
+    requires partial { IsPartial stock.now job.now partial.now }
+    requires case { case < length job.now.cases }
+    requires carriers { AreCarriers (λ i. capacity_value i w.now) stock.now carriers.now }
+    ensures value { IsTrue result ↔ IsSomeAnd (slice_get job.now.cases case) (λ c.
+        IsShort stock.now job.now partial.now c w.now (λ i. capacity_value i w.now)) }
+    ensures so { IsTrue result → NoneMayBeBuilt stock.now job.now partial.now }
+{
     kept(job, stock);
-    let carriers = Carriers::of(stock, w);
-    let carried = carried(job, stock, &carriers, partial);
+    let carried = carried(job, stock, carriers, partial);
     let demand = demand(&job.cases.items()[case as usize], w);
-    is_short(&carriers, carried, open_places(job, partial), demand)
+    is_short(carriers, carried, open_places(job, partial), demand)
 }
 
 /// The least that a completion costs that carries the load of a case, as a balance of weighted
@@ -65,13 +84,32 @@ pub fn net_cost(job: &Job, stock: &Stock, partial: &Partial, case: u8, w: &Weigh
         result ≡ net_spec stock.now job.now partial.now c w.now (λ i. capacity_value i w.now)) }
     ensures so { NoneIsCheaper stock.now job.now partial.now result }
 {
+    cost_by(job, stock, &Carriers::of(stock, w), partial, case, w)
+}
+
+/// The same, by what the items carry.
+pub(crate) fn cost_by(
+    job: &Job,
+    stock: &Stock,
+    carriers: &Carriers,
+    partial: &Partial,
+    case: u8,
+    w: &Weight,
+) -> u64
+    requires liner { IsKnown stock.now job.now.liner }
+    requires partial { IsPartial stock.now job.now partial.now }
+    requires case { case < length job.now.cases }
+    requires carriers { AreCarriers (λ i. capacity_value i w.now) stock.now carriers.now }
+    ensures value { IsSomeAnd (slice_get job.now.cases case) (λ c.
+        result ≡ net_spec stock.now job.now partial.now c w.now (λ i. capacity_value i w.now)) }
+    ensures so { NoneIsCheaper stock.now job.now partial.now result }
+{
     kept(job, stock);
-    let carriers = Carriers::of(stock, w);
-    let carried = carried(job, stock, &carriers, partial);
+    let carried = carried(job, stock, carriers, partial);
     let demand = demand(&job.cases.items()[case as usize], w);
     let cost = fixed_cost(job, stock, partial);
     let floor = cost_with(cost, open_places(job, partial), cheapest(stock));
-    net_floor(&carriers, floor, cost, carried, demand)
+    net_floor(carriers, floor, cost, carried, demand)
 }
 
 // the cost of the liner and the fixed plies

@@ -11,13 +11,14 @@ ghost use Rattle.lam_tree.specs.Closings.{ClosesByRule, IsSound, Reaches};
 ghost use Rattle.lam_tree.specs.ForceBalance.{IsShort, net_cost as net_spec};
 ghost use Rattle.lam_tree.specs.Words.{IsTrueOf, NoneIsCheaper, NoneMayBeBuilt};
 ghost use Rattle.lam_bounds.specs.inside.Computed.{capacity_value};
+ghost use Rattle.lam_bounds.specs.inside.Tables.{AreBoundsOf};
 ghost use Rattle.lam_boxes.specs.inside.Tables.{AreBoxTablesOf};
 ghost use Rattle.lam_answers.specs.inside.Computed.{computed};
 
 use crate::costs::reaches;
 use crate::judging::is_judged_full;
 use crate::splitting::is_full;
-use lam_bounds::{cost_floor, net_cost, net_short};
+use lam_bounds::{Bounds, cost_floor, net_cost_by, net_short_by};
 use lam_boxes::{BoxTables, is_boxed};
 use lam_job::Job;
 use lam_judge::Tables;
@@ -31,6 +32,7 @@ pub fn closes(
     job: &Job,
     stock: &Stock,
     tables: &Tables,
+    bounds: &Bounds,
     boxes: &BoxTables,
     best: Option<u64>,
     partial: &Partial,
@@ -38,6 +40,7 @@ pub fn closes(
 ) -> bool
     requires job_for { IsJobFor stock.now job.now }
     requires tables { AreTablesOf stock.now tables.now }
+    requires bounds { AreBoundsOf stock.now job.now bounds.now }
     requires boxes { AreBoxTablesOf stock.now boxes.now }
     requires partial { IsPartial stock.now job.now partial.now }
     requires short { partial.now.n ≤ job.now.limit }
@@ -51,8 +54,8 @@ pub fn closes(
         Word::Split => unreachable!(),
         Word::Cost => reaches(cost_floor(job, stock, partial), best),
         Word::Rule(rule) => closes_by_rule(job, stock, partial, rule),
-        Word::NetShort(case, w) => is_short(job, stock, partial, case, &w),
-        Word::NetCost(case, w) => is_dear(job, stock, best, partial, case, &w),
+        Word::NetShort(case, w) => is_short(job, stock, bounds, partial, case, &w),
+        Word::NetCost(case, w) => is_dear(job, stock, bounds, best, partial, case, &w),
         Word::Box(at) => is_boxed(job, stock, boxes, partial, at),
         Word::Range(case) => is_judged_full(job, stock, tables, partial, Word::Range(case)),
         Word::Fails(at) => is_judged_full(job, stock, tables, partial, Word::Fails(at)),
@@ -90,8 +93,15 @@ fn is_rule(found: Option<RuleNo>, rule: RuleNo) -> bool
 }
 
 // tells whether the job has the case, and its load cannot be carried
-fn is_short(job: &Job, stock: &Stock, partial: &Partial, case: u8, w: &Weight) -> bool
-    requires liner { IsKnown stock.now job.now.liner }
+fn is_short(
+    job: &Job,
+    stock: &Stock,
+    bounds: &Bounds,
+    partial: &Partial,
+    case: u8,
+    w: &Weight,
+) -> bool
+    requires bounds { AreBoundsOf stock.now job.now bounds.now }
     requires partial { IsPartial stock.now job.now partial.now }
     ensures value { IsTrue result ↔ IsSomeAnd (slice_get job.now.cases case)
         (λ c. IsShort stock.now job.now partial.now c w.now (λ i. capacity_value i w.now)) }
@@ -100,19 +110,20 @@ fn is_short(job: &Job, stock: &Stock, partial: &Partial, case: u8, w: &Weight) -
     if case as usize >= job.cases.items().len() {
         return false;
     }
-    net_short(job, stock, partial, case, w)
+    net_short_by(job, stock, bounds, partial, case, w)
 }
 
 // tells whether the job has the case, and its load cannot be carried, or only at the best cost
 fn is_dear(
     job: &Job,
     stock: &Stock,
+    bounds: &Bounds,
     best: Option<u64>,
     partial: &Partial,
     case: u8,
     w: &Weight,
 ) -> bool
-    requires liner { IsKnown stock.now job.now.liner }
+    requires bounds { AreBoundsOf stock.now job.now bounds.now }
     requires partial { IsPartial stock.now job.now partial.now }
     ensures value { IsTrue result ↔ IsSomeAnd (slice_get job.now.cases case)
         (λ c. IsShort stock.now job.now partial.now c w.now (λ i. capacity_value i w.now)
@@ -124,8 +135,8 @@ fn is_dear(
     if case as usize >= job.cases.items().len() {
         return false;
     }
-    if net_short(job, stock, partial, case, w) {
+    if net_short_by(job, stock, bounds, partial, case, w) {
         return true;
     }
-    reaches(net_cost(job, stock, partial, case, w), best)
+    reaches(net_cost_by(job, stock, bounds, partial, case, w), best)
 }

@@ -83,6 +83,7 @@ impl Problem for Design<'_> {
             self.job,
             self.stock,
             self.tables,
+            self.bounds,
             self.boxes,
             best,
             partial,
